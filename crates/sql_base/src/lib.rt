@@ -1,0 +1,24 @@
+//! What the rooms of nsq speak of: values and rows, keys and granules, tables, expressions, statements and scripts.
+#![tactic(auto)]
+
+mod bytes;
+mod expressions;
+mod faults;
+mod key_ranges;
+mod lists;
+mod lock_names;
+mod scripts;
+mod statements;
+mod tables;
+mod values;
+
+pub use bytes::{Code, Key, Name, Packed, Prefix, Text};
+pub use expressions::{ArithOp, CompareOp, Expr};
+pub use faults::{Cause, EvalFault, Fault, NoMemory};
+pub use key_ranges::{KeyRange, Start};
+pub use lists::List;
+pub use lock_names::{Access, Lock, Mode, TxnName};
+pub use scripts::{Limits, Load, Script, Work};
+pub use statements::{Assign, Statement};
+pub use tables::{Column, ColumnKind, TableDef};
+pub use values::{Row, Value};
