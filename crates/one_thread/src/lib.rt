@@ -1,0 +1,2 @@
+//! The plain evaluator: what one thread makes of a script, without quanta, locks, messages or partitions.
+#![tactic(auto)]

@@ -1,0 +1,2 @@
+//! The range of keys that a predicate leaves.
+#![tactic(auto)]

@@ -1,0 +1,6 @@
+//! The requester's side: how a session turns its statements into requests, and the log of what came back.
+#![tactic(auto)]
+
+mod logs;
+
+pub use logs::{Action, Answer, LogEntry};

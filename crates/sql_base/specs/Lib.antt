@@ -1,0 +1,10 @@
+pub mod Keys
+pub mod Rows
+pub mod Val
+pub mod OnRows
+pub mod Codes
+pub mod Kinds
+pub mod Locks
+pub mod Tables
+pub mod Scripts
+pub mod Outcomes
