@@ -1,0 +1,8 @@
+pub mod Openings
+pub mod Legal
+pub mod Tiles
+pub mod Base
+pub mod Serial
+pub mod Settled
+pub mod Seen
+pub mod Text
