@@ -8,6 +8,10 @@ pub record CallRecord : Type 0 where
   pub made : ℕ
   pub faults : ℕ
 
+-- no call yet
+abbrev pub no_call : List ℕ → CallRecord
+no_call failing = record { failing = failing; made = 0; faults = 0 }
+
 -- the number of the next call is one of those that fail
 abbrev pub FailsNext : CallRecord → Type 0
 FailsNext calls = Contains calls.failing (raised calls.made)

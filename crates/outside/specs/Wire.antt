@@ -2,7 +2,7 @@
 use Rattle.std.specs.Prelude.{◌≡◌, List, [], ◌∷◌}
 use Rattle.outside.specs.declared.wire.Passage.{Passage}
 
--- a wire that tells the answers `first` and then those of `round` over and over tells this one, and `later` before its next round
+-- of the answers `first`, and then those of `round` over and over, this is the next, and `later` are left of the first
 abbrev pub Answers : List Passage → List Passage → Passage → List Passage → Type 0
 Answers (next ∷ others) round answer later = (answer ≡ next) × (later ≡ others)
 Answers [] (next ∷ others) answer later = (answer ≡ next) × (later ≡ others)

@@ -1,5 +1,5 @@
 ghost use Rattle.std.specs.Prelude.{◌≡◌, ◌↔◌, IsErr, OnOk, OnErr};
-ghost use Rattle.outside.specs.Calls.{FailsNext, succeeded, failed};
+ghost use Rattle.outside.specs.Calls.{FailsNext, no_call, succeeded, failed};
 ghost use Rattle.outside.specs.Counter.{raised};
 
 use crate::failure::Failed;
@@ -18,13 +18,17 @@ impl Model for Calls {
 
     ghost Value = { CallRecord };
 
-    ghost view = { λ calls. record { failing = calls.failing.items; made = calls.made; faults = calls.faults } };
+    ghost view = { λ calls. record {
+      failing = calls.failing.items;
+      made = calls.made;
+      faults = calls.faults;
+    } };
 }
 
 impl Calls {
     /// No call yet. Calls are counted from 1, and those whose numbers are in `failing` fail.
     pub fn new(failing: Vec<u64>) -> Calls
-        ensures { result ≡ record { failing = failing.items; made = 0; faults = 0 } }
+        ensures { result ≡ no_call failing.items }
     {
         Calls {
             failing,

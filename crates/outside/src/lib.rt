@@ -1,5 +1,5 @@
-//! The outside of the program: where its bytes come from and go to, the wire that may lose a message, the gate that
-//! a test may hold, and what collects entries of a log.
+//! The outside of the program: where its bytes come from and go to, the wire that may lose a
+//! message, the gate that a test may hold, and what collects entries of a log.
 #![tactic(auto)]
 
 mod calls;

@@ -1,6 +1,5 @@
-ghost use Rattle.std.specs.Prelude.{◌≡◌, ◌≢◌, ◌++◌, [], ◌∷◌, List, ℕ, OnOk};
+ghost use Rattle.std.specs.Prelude.{◌≡◌, ◌≢◌, ◌++◌, [], ◌∷◌, OnOk};
 ghost use Rattle.outside.specs.Wire.{Answers};
-ghost use Rattle.outside.specs.declared.collector.Seen.{Seen};
 
 use super::*;
 use std::alloc::AllocError;
@@ -48,7 +47,8 @@ impl<W: Write> Write for FailsSecond<W> {
     }
 }
 
-/// Reads pieces of two bytes, and compares each with the bytes that are expected, or `None` for `Failed`.
+/// Reads pieces of two bytes, and compares each with the bytes that are expected, or `None` for
+/// `Failed`.
 fn expect_reads<S: Source>(rt: &impl Abort, source: &mut S, expected: &[Option<&[u8]>]) {
     for want in expected {
         let mut piece = [0; 2];
@@ -60,7 +60,8 @@ fn expect_reads<S: Source>(rt: &impl Abort, source: &mut S, expected: &[Option<&
     }
 }
 
-/// Writes each piece, and compares the answer with the count that is expected, or `None` for `Failed`.
+/// Writes each piece, and compares the answer with the count that is expected, or `None` for
+/// `Failed`.
 fn expect_writes<K: Sink>(rt: &impl Abort, sink: &mut K, expected: &[(&[u8], Option<usize>)]) {
     for (piece, want) in expected {
         let got = sink.write(piece).ok();
@@ -146,7 +147,8 @@ fn cycle_goes_round(rt: HostRuntime) -> Result<(), Fail> {
     Ok(())
 }
 
-/// A collector whose content is the kinds of the requests that it saw, and whose text is those and a byte of its own.
+/// A collector whose content is the kinds of the requests that it saw, and whose text is those and
+/// a byte of its own.
 #[derive(Drop)]
 struct Requests {
     requests: Vec<u8>,
@@ -176,7 +178,8 @@ impl Collector for Requests {
 
 /// A boxed collector keeps the contract of its trait.
 fn see_boxed(collector: &mut Box<dyn Collector>, entry: &Seen) -> Result<(), NoMemory>
-    ensures ok { OnOk result (content collector.new ≡ step collector.old entry.now (content collector.old)) }
+    ensures ok { OnOk result
+        (content collector.new ≡ step collector.old entry.now (content collector.old)) }
     ensures same_step { step collector.new ≡ step collector.old }
     ensures same_form { form collector.new ≡ form collector.old }
 {

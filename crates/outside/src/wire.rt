@@ -1,4 +1,4 @@
-ghost use Rattle.std.specs.Prelude.{◌≡◌, ◌≢◌, ◌<◌, ◌≤◌, List, [], length, drop, vec_len};
+ghost use Rattle.std.specs.Prelude.{◌≡◌, ◌≢◌, ◌≤◌, List, [], length, drop};
 ghost use Rattle.outside.specs.declared.wire.Passage.{Passage};
 
 /// What becomes of a message that is sent.
@@ -16,8 +16,8 @@ pub enum Passage {
 
 /// What decides, for one session, which messages are lost or repeated.
 ///
-/// Contracts see the answers that it tells from now on: those of `first`, and then those of `round`,
-/// which has some, over and over.
+/// Contracts see the answers that it tells from now on: those of `first`, and then those of
+/// `round`, which has some, over and over.
 pub trait Wire: Drop {
     ghost use Rattle.outside.specs.Wire.{Answers};
 

@@ -1,5 +1,5 @@
 ghost use Rattle.std.specs.Prelude.{◌≡◌, ◌≢◌, ◌≤◌, ◌-◌, ◌↔◌, ◌⊎◌, [], ◌++◌, length, take, min, IsErr, IfOk, OnOk, OnErr, Some};
-ghost use Rattle.outside.specs.Calls.{FailsNext, succeeded, failed};
+ghost use Rattle.outside.specs.Calls.{FailsNext, no_call, succeeded, failed};
 
 use super::Sink;
 use crate::calls::Calls;
@@ -21,18 +21,22 @@ impl Model for MemorySink {
 
     ghost Value = { Store };
 
-    ghost view = { λ sink. record { taken = sink.bytes.items; room = sink.room; calls = sink.calls } };
+    ghost view = { λ sink. record {
+      taken = sink.bytes.items;
+      room = sink.room;
+      calls = sink.calls;
+    } };
 
     ghost invariant = { λ sink. vec_len sink.bytes + sink.room ≤ vec_capacity sink.bytes };
 }
 
 impl MemorySink {
-    /// A sink that takes up to `room` bytes, and has all the memory for them. Its calls are counted from 1, and those
-    /// whose numbers are in `fails` fail.
+    /// A sink that takes up to `room` bytes, and has all the memory for them. Its calls are counted
+    /// from 1, and those whose numbers are in `fails` fail.
     pub fn new(alloc: Global, room: usize, fails: Vec<u64>) -> Result<MemorySink, NoMemory>
         ensures taken { IfOk result (λ sink. sink.taken ≡ []) }
         ensures room { IfOk result (λ sink. sink.room ≡ room) }
-        ensures calls { IfOk result (λ sink. sink.calls ≡ record { failing = fails.items; made = 0; faults = 0 }) }
+        ensures calls { IfOk result (λ sink. sink.calls ≡ no_call fails.items) }
     {
         Ok(MemorySink {
             bytes: Vec::with_capacity(alloc, room)?,
@@ -54,10 +58,11 @@ impl Sink for MemorySink {
 
     ghost faults = { λ sink. sink.calls.faults };
 
-    /// Takes as many bytes as there is room for. Fails exactly where the number of the call is one of those that fail,
-    /// or there is no room for a byte of a piece that has any.
+    /// Takes as many bytes as there is room for. Fails exactly where the number of the call is one
+    /// of those that fail, or there is no room for a byte of a piece that has any.
     fn write(&mut self, piece: &[u8]) -> Result<usize, Failed>
-        ensures fails { IsErr result ↔ (FailsNext self.old.calls ⊎ ((self.old.room ≡ 0) × (piece.now ≢ []))) }
+        ensures fails { IsErr result
+            ↔ (FailsNext self.old.calls ⊎ ((self.old.room ≡ 0) × (piece.now ≢ []))) }
         ensures count { IfOk result (λ count. count ≡ min (length piece.now) self.old.room) }
 
         ensures taken { IfOk result (λ count. self.new.taken ≡ self.old.taken ++ take count piece.now) }

@@ -6,8 +6,9 @@ use std::io::Write;
 
 /// A sink over any writer of std.
 ///
-/// It tells what its writer tells of the bytes taken: nothing for a standard stream. Each error of the writer, also an
-/// interrupted write, and each write that takes no byte of a piece that has any, is counted and answered `Failed`.
+/// It tells what its writer tells of the bytes taken: nothing for a standard stream. Each error of
+/// the writer, also an interrupted write, and each write that takes no byte of a piece that has
+/// any, is counted and answered `Failed`.
 #[derive(Debug, Drop)]
 pub struct StdSink<W> {
     writer: W,

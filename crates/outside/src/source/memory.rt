@@ -1,5 +1,5 @@
 ghost use Rattle.std.specs.Prelude.{◌≡◌, ◌≤◌, ◌↔◌, length, take, drop, min, IsErr, IfOk, OnOk, OnErr, Some};
-ghost use Rattle.outside.specs.Calls.{FailsNext, succeeded, failed};
+ghost use Rattle.outside.specs.Calls.{FailsNext, no_call, succeeded, failed};
 
 use super::Source;
 use crate::calls::Calls;
@@ -20,16 +20,20 @@ impl Model for MemorySource {
 
     ghost Value = { Supply };
 
-    ghost view = { λ source. record { left = drop source.given source.bytes.items; calls = source.calls } };
+    ghost view = { λ source. record {
+      left = drop source.given source.bytes.items;
+      calls = source.calls;
+    } };
 
     ghost invariant = { λ source. source.given ≤ length source.bytes.items };
 }
 
 impl MemorySource {
-    /// A source of these bytes. Its calls are counted from 1, and those whose numbers are in `fails` fail.
+    /// A source of these bytes. Its calls are counted from 1, and those whose numbers are in
+    /// `fails` fail.
     pub fn new(bytes: Vec<u8>, fails: Vec<u64>) -> MemorySource
         ensures left { result.left ≡ bytes.items }
-        ensures calls { result.calls ≡ record { failing = fails.items; made = 0; faults = 0 } }
+        ensures calls { result.calls ≡ no_call fails.items }
     {
         MemorySource {
             bytes,
@@ -44,8 +48,8 @@ impl Source for MemorySource {
 
     ghost faults = { λ source. source.calls.faults };
 
-    /// Gives as many bytes as there are and `into` has room for, and leaves what stands behind them. Fails exactly
-    /// where the number of the call is one of those that fail.
+    /// Gives as many bytes as there are and `into` has room for, and leaves what stands behind
+    /// them. Fails exactly where the number of the call is one of those that fail.
     fn read(&mut self, into: &mut [u8]) -> Result<usize, Failed>
         ensures fails { IsErr result ↔ FailsNext self.old.calls }
         ensures count { IfOk result (λ count. count ≡ min (length into.new) (length self.old.left)) }

@@ -6,8 +6,8 @@ use std::io::Read;
 
 /// A source over any reader of std.
 ///
-/// It tells what its reader tells of the bytes that are left: nothing for a standard stream. Each error of the reader,
-/// also an interrupted read, is counted and answered `Failed`.
+/// It tells what its reader tells of the bytes that are left: nothing for a standard stream. Each
+/// error of the reader, also an interrupted read, is counted and answered `Failed`.
 #[derive(Debug, Drop)]
 pub struct StdSource<R> {
     reader: R,
