@@ -7,13 +7,13 @@ use crate::failure::NoMemory;
 /// One entry of a log, in numbers.
 #[derive(Clone, Copy, Debug, PartialEq, Eq)]
 pub struct Seen {
-    /// The number of the partition.
+    /// The number of the partition, from 0.
     pub part: u32,
-    /// The place in the partition's log, from 0.
+    /// The place in the partition's history, from 0.
     pub place: u64,
     /// The number of the session that sent the request.
     pub opener: u32,
-    /// The number of the request among those of its session to this partition.
+    /// The number by which the partition knows a request that is sent again.
     pub sync: u64,
     /// The number of the transaction among those of its session, from 1.
     pub ordinal: u32,
@@ -23,11 +23,11 @@ pub struct Seen {
     pub reply: u8,
     /// The cause of a redrive, or 0.
     pub cause: u8,
-    /// How many rows the reply has.
+    /// How many rows the reply brings.
     pub rows: u32,
-    /// How many records were changed.
+    /// How many records the request changed.
     pub changed: u32,
-    /// The mode of the lock that was met: 1 for S, 2 for X, 0 for none.
+    /// The mode of the lock that the request asks for: 1 for S, 2 for X, 0 for none.
     pub mode: u8,
 }
 

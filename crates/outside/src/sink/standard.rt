@@ -8,7 +8,8 @@ use std::io::Write;
 ///
 /// It tells what its writer tells of the bytes taken: nothing for a standard stream. Each error of
 /// the writer, also an interrupted write, and each write that takes no byte of a piece that has
-/// any, is counted and answered `Failed`.
+/// any, is counted and answered `Failed`. It never flushes, so its writer is to have no buffer of
+/// its own, as the standard streams have none.
 #[derive(Debug, Drop)]
 pub struct StdSink<W> {
     writer: W,
