@@ -1,3 +1,4 @@
 pub mod Greatest
 pub mod ReadOnly
 pub mod Walking
+mod WorkedRows

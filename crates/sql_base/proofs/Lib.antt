@@ -1,2 +1,4 @@
 pub mod Choosing
 pub mod KeyColumns
+pub mod Trees
+mod WorkedRows

@@ -26,3 +26,6 @@ pub use scripts::{Limits, Load, Script, Work};
 pub use statements::{Assign, Statement};
 pub use tables::{Column, ColumnKind, TableDef};
 pub use values::{Row, Value};
+
+#[cfg(test)]
+mod tests;
