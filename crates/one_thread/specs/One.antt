@@ -5,7 +5,10 @@ use Rattle.sql_base.specs.Keys.{key_lt, key_eq}
 use Rattle.sql_base.specs.Rows.{chosen, kinds, key_of, packed}
 use Rattle.sql_base.specs.Val.{Outcome, filter_val, IsTruth}
 use Rattle.sql_base.specs.OnRows.{fault_of, updated, first_failing}
-use Rattle.sql_base.specs.Outcomes.{Abort, Faulted, Duplicate, Given, Rows, Count, Silent}
+use Rattle.sql_base.specs.declared.outcomes.Abort.{Abort}
+use Rattle.sql_base.specs.declared.outcomes.Abort.TheVariants.{Faulted, Duplicate}
+use Rattle.sql_base.specs.declared.outcomes.Given.{Given}
+use Rattle.sql_base.specs.declared.outcomes.Given.TheVariants.{Rows, Count, Silent}
 use Rattle.sql_base.specs.Tables.{table_of}
 use Rattle.range_finder.specs.Range.{range, is_in}
 use Rattle.sql_base.specs.declared.expressions.Expr.{Expr}

@@ -2,19 +2,18 @@
 use Rattle.std.specs.Prelude.{ℕ, ◌+◌, ◌/◌, ◌%◌, ◌==◌, nat_lt, ℤ, pos, negsuc, List, [], ◌∷◌, ◌++◌, map, flat_map, Option, Some, None, codes, decimal, if◌then◌else◌}
 use Rattle.std.specs.List.{join_with_byte}
 use Rattle.sql_base.specs.Rows.{kinds, unpacked}
-use Rattle.sql_base.specs.Outcomes.{Abort, LockedOut, PathLost, Faulted, Duplicate, Outcome, Committed, RolledBack, Aborted, Given, Rows, Count, Silent}
+use Rattle.sql_base.specs.declared.outcomes.Abort.{Abort}
+use Rattle.sql_base.specs.declared.outcomes.Abort.TheVariants.{LockedOut, PathLost, Faulted, Duplicate}
+use Rattle.sql_base.specs.declared.outcomes.Outcome.{Outcome}
+use Rattle.sql_base.specs.declared.outcomes.Outcome.TheVariants.{Committed, RolledBack, Aborted}
+use Rattle.sql_base.specs.declared.outcomes.Given.{Given}
+use Rattle.sql_base.specs.declared.outcomes.Given.TheVariants.{Rows, Count, Silent}
 use Rattle.sql_base.specs.declared.faults.Fault.{Fault}
 use Rattle.sql_base.specs.declared.faults.Fault.TheVariants.{Overflow, ZeroDivide, CheckFailed}
 use Rattle.sql_base.specs.declared.tables.TableDef.{TableDef}
 use Rattle.sql_base.specs.declared.values.Value.{Value}
+use Rattle.one_thread.specs.declared.shown.Shown.{Shown}
 use Rattle.sql_base.specs.declared.values.Value.TheVariants.{Int, Text}
-
--- an attempt as it is shown: whose it is, how it ended, and what each of its statements gave, in their order
-pub record Shown : Type 0 where
-  pub session : ℕ
-  pub ordinal : ℕ
-  pub outcome : Outcome
-  pub given : List Given
 
 -- words with one blank between, and a line feed
 abbrev pub line : List (List ℕ) → List ℕ

@@ -1,6 +1,7 @@
 -- Requests in a log, each with its repeats after Locked.
 use Rattle.std.specs.Prelude.{◌≡◌, ◌≤◌, ℕ, zero, suc, List, [], ◌∷◌, Option, Some, None, Bool, true, false, ◌==◌, if◌then◌else◌}
-use Rattle.sql_base.specs.Outcomes.{Abort, LockedOut, PathLost, Faulted, Duplicate}
+use Rattle.sql_base.specs.declared.outcomes.Abort.{Abort}
+use Rattle.sql_base.specs.declared.outcomes.Abort.TheVariants.{LockedOut, PathLost, Faulted, Duplicate}
 use Rattle.sql_base.specs.declared.lock_names.Lock.{Lock}
 use Rattle.dp_messages.specs.declared.replies.Reply.{Reply as PartitionReply}
 use Rattle.dp_messages.specs.declared.replies.Reply.TheVariants as reply

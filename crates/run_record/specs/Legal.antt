@@ -2,7 +2,7 @@
 use Rattle.std.specs.Prelude.{◌≡◌, ◌≤◌, ◌<◌, ℕ, ◌+◌, max, ◌==◌, List, [], ◌∷◌, length, map, filter, filter_map, find, Option, Some, None, option_map, Bool, true, false, ◌↔◌, ◌⊎◌, Contains, reverse}
 use Rattle.std.specs.List.{AllZip, AllByRecursion, last_or}
 use Rattle.sql_base.specs.Locks.{same_txn}
-use Rattle.sql_base.specs.Outcomes.{Committed}
+use Rattle.sql_base.specs.declared.outcomes.Outcome.TheVariants.{Committed}
 use Rattle.sql_base.specs.Scripts.{IsScript, Lies}
 use Rattle.sql_base.specs.Tables.{all_differ}
 use Rattle.partition_core.specs.History.{IsLegal}

@@ -1,7 +1,8 @@
 -- That the committed REPEATABLE transactions and the final tables are those of one thread in stamp order.
 use Rattle.std.specs.Prelude.{◌≡◌, ℕ, ◌+◌, List, [], ◌∷◌, length, map, flat_map, sum, fold, Option, Some, None, option_map, unwrap_or, slice_get, Contains}
 use Rattle.std.specs.List.{AllByRecursion, last_or}
-use Rattle.sql_base.specs.Outcomes.{Given, Rows, Count, Silent}
+use Rattle.sql_base.specs.declared.outcomes.Given.{Given}
+use Rattle.sql_base.specs.declared.outcomes.Given.TheVariants.{Rows, Count, Silent}
 use Rattle.sql_base.specs.Rows.{chosen, kinds}
 use Rattle.sql_base.specs.Scripts.{Lies}
 use Rattle.sql_base.specs.Tables.{table_of}

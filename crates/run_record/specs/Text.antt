@@ -1,6 +1,7 @@
 -- The text of a record.
 use Rattle.std.specs.Prelude.{◌≡◌, ℕ, ◌+◌, List, [], ◌∷◌, ◌++◌, map}
-use Rattle.one_thread.specs.Text.{Shown, run_text}
+use Rattle.one_thread.specs.Text.{run_text}
+use Rattle.one_thread.specs.declared.shown.Shown.{Shown}
 use Rattle.requester_fs.specs.Plans.{Requester}
 use Rattle.requester_fs.specs.Follows.{Attempt, Reads, IsPart, requester, works_of}
 use Rattle.run_record.specs.Openings.{log_of}

@@ -7,4 +7,3 @@ pub mod Kinds
 pub mod Locks
 pub mod Tables
 pub mod Scripts
-pub mod Outcomes
