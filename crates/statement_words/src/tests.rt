@@ -1,8 +1,12 @@
+ghost use Rattle.std.specs.Prelude.{◌≤◌, length};
+
 use super::*;
 use std::test::Fail;
 
 /// The spans of the words, as the bytes of the script that each stands on.
-fn slices<'a>(rt: &HostRuntime, text: &'a [u8]) -> Result<Vec<&'a [u8]>, Fail> {
+fn slices<'a>(rt: &HostRuntime, text: &'a [u8]) -> Result<Vec<&'a [u8]>, Fail>
+    requires { length text.now ≤ SCRIPT_LIMIT }
+{
     let tokens = words(rt.alloc(), text)?;
     let mut slices = Vec::new(rt.alloc());
     for token in tokens.items() {
