@@ -1,4 +1,4 @@
-use Rattle.std.proofs.Common.{◌≡◌, ℕ, ◌+◌, ◌-◌, ◌*◌, ◌^◌, ◌≤◌, ◌<◌, List, [], ◌∷◌, ltb, true, get_or, drop, length, suc, arith, lt-ltb, drop-cons, add-one}
+use Rattle.std.proofs.Common.{◌≡◌, ℕ, ◌+◌, ◌-◌, ◌*◌, ◌^◌, ◌≤◌, ◌<◌, List, [], ◌∷◌, ltb, true, get_or, drop, length, suc, arith, lt-ltb, drop-cons}
 use Rattle.statement_words.specs.Words.{decimal_from}
 
 -- more digits spell no less

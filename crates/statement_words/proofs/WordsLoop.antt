@@ -1,7 +1,7 @@
 -- One turn of the loop over the bytes.
-use Rattle.std.proofs.Common.{◌≡◌, ℕ, suc, ◌+◌, ◌<◌, List, [], ◌∷◌, drop, get_or, length, Result, Ok, Err, refl, drop-cons, add-one}
+use Rattle.std.proofs.Common.{◌≡◌, ℕ, ◌+◌, ◌<◌, List, ◌∷◌, drop, get_or, length, Result, Ok, drop-cons, add-one}
 use Rattle.statement_words.specs.declared.tokens.Token.{Token}
-use Rattle.statement_words.specs.Reading.{Place, ◌>>=◌}
+use Rattle.statement_words.specs.Reading.{Place}
 use Rattle.statement_words.specs.Words.{Words, words_step, words_from}
 
 turn : (bytes : List ℕ) (b : ℕ) (bs : List ℕ) (at : ℕ) (s next : Words) (total : Result (List Token) Place) → bytes ≡ b ∷ bs → words_step at s bytes ≡ Ok next → words_from at s bytes ≡ total → words_from (at + 1) next bs ≡ total

@@ -21,10 +21,7 @@ pub enum WordReason {
 #[derive(Clone, Copy, Debug, PartialEq, Eq)]
 pub enum WordFault {
     /// The byte that is at fault, counted from 0.
-    At {
-        reason: WordReason,
-        at: u32,
-    },
+    At { reason: WordReason, at: u32 },
     NoMemory,
 }
 

@@ -23,7 +23,8 @@ fn a_statement_has_its_words(rt: HostRuntime) -> Result<(), Fail> {
     let text = b"SELECT k\t FROM t\r\nWHERE c<='A''B'AND k<>12ab;";
     let found = slices(&rt, text.as_slice())?;
     let wanted: [&[u8]; 14] = [
-        b"SELECT", b"k", b"FROM", b"t", b"WHERE", b"c", b"<=", b"'A''B'", b"AND", b"k", b"<>", b"12", b"ab", b";",
+        b"SELECT", b"k", b"FROM", b"t", b"WHERE", b"c", b"<=", b"'A''B'", b"AND", b"k", b"<>",
+        b"12", b"ab", b";",
     ];
     assert_eq!(rt; found.len(), wanted.len());
     for (slice, want) in found.iter().zip(wanted.iter()) {
@@ -53,6 +54,12 @@ fn a_text_of_255_bytes_is_the_longest(rt: HostRuntime) -> Result<(), Fail> {
     assert_eq!(rt; words(rt.alloc(), text.as_slice())?.items().len(), 1);
     text.insert(1, b'A')?;
     let fault = words(rt.alloc(), text.as_slice()).err().ok_or("a fault")?;
-    assert_eq!(rt; fault, WordFault::At { reason: WordReason::TextTooLong, at: 0 });
+    assert_eq!(rt;
+        fault,
+        WordFault::At {
+            reason: WordReason::TextTooLong,
+            at: 0
+        }
+    );
     Ok(())
 }
