@@ -1,0 +1,4 @@
+pub mod Fixed
+pub mod Before
+pub mod Found
+pub mod Only
