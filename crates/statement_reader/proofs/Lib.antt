@@ -1,0 +1,7 @@
+pub mod Before
+pub mod Fixed
+pub mod Found
+pub mod Only
+pub mod Rising
+pub mod Spelling
+pub mod Thinness

@@ -1,0 +1,48 @@
+ghost use Rattle.std.specs.Prelude.{◌≡◌};
+ghost use Rattle.statement_reader.specs.declared.faults.ReadFault.TheVariants as faults;
+
+use sql_base::NoMemory;
+use thiserror::Error;
+
+/// Why bytes are no script.
+#[derive(Clone, Copy, Debug, PartialEq, Eq)]
+pub enum Reason {
+    TooLarge,
+    BadByte,
+    OpenText,
+    NumberTooWide,
+    TextTooLong,
+    Unexpected,
+    UnknownName,
+    Repeated,
+    WrongType,
+    OverLimit,
+    NotRising,
+    CheckFails,
+    /// A script that may be one, and isn't read yet.
+    NotYet,
+}
+
+/// The place at which bytes are no script. Lines count from 1 and end at LF, columns count bytes from 1.
+#[derive(Clone, Copy, Debug, PartialEq, Eq)]
+pub struct ScriptFault {
+    pub line: u32,
+    pub column: u32,
+    pub reason: Reason,
+}
+
+#[derive(Clone, Copy, Debug, PartialEq, Eq, Error)]
+pub enum ReadFault {
+    #[error("line {} column {}: {:?}", .0.line, .0.column, .0.reason)]
+    Script(ScriptFault),
+    #[error("out of memory")]
+    NoMemory,
+}
+
+impl From<NoMemory> for ReadFault {
+    ghost from_gives = { λ _ fault. fault ≡ faults.NoMemory };
+
+    fn from(_error: NoMemory) -> ReadFault {
+        ReadFault::NoMemory
+    }
+}

@@ -1,0 +1,4 @@
+pub mod Decimal
+pub mod Spelled
+pub mod WordsLoop
+mod Rows

@@ -1,0 +1,8 @@
+use Rattle.std.proofs.Common.{◌∙◌, ap}
+use Rattle.statement_words.specs.Keywords.{keyword_of}
+use Rattle.statement_words.proofs.Spelled.{keyword_of-spelling}
+use Rattle.statement_words.proofs.keywords.keyword_of.Goals as goal
+
+pub returns-clause-found : goal.returns-clause-found
+unfolding keyword_of
+returns-clause-found c k is = c.written_as.ensures ∙ ap keyword_of is ∙ keyword_of-spelling k

@@ -1,0 +1,89 @@
+ghost use Rattle.std.specs.Prelude.{◌≡◌, ◌+◌, ◌<◌, ◌≤◌, ◌^◌, length, drop, IfOk};
+ghost use Rattle.statement_words.specs.Reading.{Gives};
+ghost use Rattle.statement_words.specs.Words.{is_separator, word_at, words_step, words_of};
+
+use crate::faults::{WordFault, WordReason};
+use crate::names::name_at;
+use crate::numbers::number_at;
+use crate::signs::sign_at;
+use crate::texts::text_at;
+use crate::tokens::{Token, Word};
+use sql_base::List;
+use std::alloc::Global;
+
+/// The most bytes that a script may have.
+pub const SCRIPT_LIMIT: usize = 4_194_304;
+
+fn is_separator(byte: u8) -> bool
+    ensures { result ≡ is_separator byte }
+{
+    byte == b' ' || byte == b'\t' || byte == b'\n' || byte == b'\r'
+}
+
+/// The longest word at the front of the bytes, which begin at `at`, and how many bytes it takes.
+#[tactic(auto, unfolding(crate::specs::Words::word_at))]
+fn word_at(alloc: Global, at: u32, bytes: &[u8]) -> Result<(Word, u32), WordFault>
+    requires { at + length bytes.now < 2 ^ 31 }
+    ensures within { IfOk result (λ x. x.1 ≤ length bytes.now) }
+    ensures same { Gives (λ x. record { word = x.0; len = x.1 }) result (word_at at bytes.now) }
+{
+    match bytes {
+        [] => Err(WordFault::At {
+            reason: WordReason::BadByte,
+            at,
+        }),
+        [first, rest @ ..] => {
+            if first.is_ascii_alphabetic() {
+                name_at(alloc, bytes)
+            } else if first.is_ascii_digit() {
+                number_at(at, bytes)
+            } else if *first == b'\'' {
+                text_at(alloc, at, rest)
+            } else {
+                sign_at(at, bytes)
+            }
+        }
+    }
+}
+
+/// What the byte at `at` adds to the tokens; the result says how many of the next bytes belong to the last of them.
+fn words_step(
+    alloc: Global,
+    tokens: &mut List<Token>,
+    skip: u32,
+    at: u32,
+    text: &[u8],
+) -> Result<u32, WordFault>
+    requires short { length text.now < 2 ^ 31 }
+    requires within { at < length text.now }
+    ensures { Gives (λ x. record { tokens = tokens.new; skip = x }) result
+        (words_step at (record { tokens = tokens.old; skip = skip }) (drop at text.now)) }
+{
+    if skip > 0 {
+        return Ok(skip - 1);
+    }
+    if is_separator(text[at as usize]) {
+        return Ok(0);
+    }
+    let (word, len) = word_at(alloc, at, &text[at as usize..])?;
+    tokens.push(Token {
+        word,
+        first: at,
+        end: at + len,
+    })?;
+    Ok(len.saturating_sub(1))
+}
+
+/// The words of a script, or the first fault of its bytes.
+#[tactic(auto, unfolding(crate::specs::Words::words_from))]
+pub fn words(alloc: Global, text: &[u8]) -> Result<List<Token>, WordFault>
+    requires { length text.now ≤ SCRIPT_LIMIT }
+    ensures { Gives (λ x. x) result (words_of text.now) }
+{
+    let mut tokens = List::new(alloc);
+    let mut skip = 0;
+    for (at, _) in text.iter().enumerate() {
+        skip = words_step(alloc, &mut tokens, skip, at as u32, text)?;
+    }
+    Ok(tokens)
+}
