@@ -1,7 +1,6 @@
 -- The rules that a table declaration and a statement on it meet.
-use Rattle.std.specs.Prelude.{◌≡◌, ◌≢◌, ◌≤◌, ◌<◌, ℕ, ◌-◌, List, [], ◌∷◌, ◌++◌, length, replicate, map, nat_eq, nat_le, Option, Some, None, slice_get, Bool, true, false, not, ◌&&◌, ◌||◌, ◌==◌}
-use Rattle.std.specs.List.{list_all, list_any, AllByRecursion}
-use Rattle.std.specs.Int.{is_in_range}
+use Rattle.std.specs.Prelude.{◌≡◌, ◌≢◌, ◌≤◌, ◌<◌, ℕ, ◌-◌, List, [], ◌∷◌, ◌++◌, length, replicate, map, nat_eq, nat_le, Option, Some, None, slice_get, Bool, true, false, not, ◌&&◌}
+use Rattle.std.specs.List.{list_any, AllByRecursion}
 use Rattle.std.specs.Str.{bytes_eq}
 use Rattle.sql_base.specs.Keys.{Rise, key_lt}
 use Rattle.sql_base.specs.Rows.{kinds, key_kinds, key_width, row_width, key_values, is_printable, IsRow}
@@ -29,14 +28,6 @@ pub record AreColumns (table : TableDef) (columns : List ℕ) : Type 0 where
   pub some : 0 < length columns
   pub within : AllByRecursion (λ c. c < length table.columns) columns
   pub differ : all_differ nat_eq columns ≡ true
-
--- a letter, then letters, digits and `_`, at most 30 bytes
-abbrev pub is_letter : ℕ → Bool
-is_letter b = is_in_range 65 90 b || is_in_range 97 122 b
-
-abbrev pub is_name : List ℕ → Bool
-is_name [] = false
-is_name (b ∷ bs) = is_letter b && (list_all (λ c. is_letter c || is_in_range 48 57 c || (c == 95)) bs && nat_le (length bs) 29)
 
 -- a literal that a key column can be compared with or begin at
 abbrev pub is_literal_of : ColumnKind → Value → Bool
@@ -68,11 +59,11 @@ abbrev pub IsWidth : ColumnKind → Type 0
 IsWidth Int = Unit {0}
 IsWidth (Char n) = (1 ≤ n) × (n ≤ 255)
 
--- a table that may be declared
+-- a table that may be declared; that a name is a word of its form is the reader's rule
 pub record IsTable (table : TableDef) : Type 0 where
-  pub name : is_name table.name ≡ true
+  pub name : length table.name ≤ 30
   pub columns : length table.columns ≤ 32
-  pub column_names : AllByRecursion (λ column. is_name column.name ≡ true) table.columns
+  pub column_names : AllByRecursion (λ column. length column.name ≤ 30) table.columns
   pub names_differ : all_differ bytes_eq (map (λ column. column.name) table.columns) ≡ true
   pub widths : AllByRecursion IsWidth (kinds table)
   pub row : row_width table ≤ 256
