@@ -27,7 +27,10 @@ pub enum Ask {
         filter: Option<Code>,
     },
     /// Goes on with a subset just after the last key that it handled.
-    Continue { subset: u32, last: Key },
+    Continue {
+        subset: u32,
+        last: Key,
+    },
     /// Reads the record of one key.
     ReadKey {
         access: Access,
@@ -36,13 +39,20 @@ pub enum Ask {
         columns: List<u8>,
     },
     /// Inserts a row, which is packed with all its columns in order.
-    Insert { row: Packed },
+    Insert {
+        row: Packed,
+    },
     /// Locks a granule.
-    LockGranule { prefix: Prefix, mode: Mode },
+    LockGranule {
+        prefix: Prefix,
+        mode: Mode,
+    },
     /// Asks for the floor above which the transaction's stamp has to be.
     Prepare,
     /// Ends the transaction by commit.
-    EndCommit { stamp: u64 },
+    EndCommit {
+        stamp: u64,
+    },
     /// Ends the transaction and gives back what it changed.
     EndUndo,
 }

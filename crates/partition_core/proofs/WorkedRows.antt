@@ -108,7 +108,8 @@ changed =
     record p {
       cells = map plain (1 ∷ 2 ∷ []) ++ record { key = key 3; now = Some (row_with 3 31); was = Some (row 3); writer = Some first } ∷ map plain (4 ∷ 5 ∷ []);
       locks = record { holder = first; prefix = key 3; mode = X } ∷ [];
-      lives = record { name = first; floor = None } ∷ [] }
+      lives = record { name = first; floor = None } ∷ [];
+    }
   where
     plain : ℕ → Cell
     plain k = record { key = key k; now = Some (row k); was = None; writer = None }

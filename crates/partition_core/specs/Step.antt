@@ -66,7 +66,7 @@ is_key_here p key = (length key == key_width p.table) && (part_of p.table key ==
 abbrev pub is_shaped : State → KeyRange → List ℕ → Bool
 is_shaped p range granule =
     is_key_here p range.low && is_key_here p range.high && key_le range.low range.high
-        && (starts_with nat_eq range.low granule && starts_with nat_eq range.high granule)
+    && (starts_with nat_eq range.low granule && starts_with nat_eq range.high granule)
 
 abbrev pub are_columns_here : State → List ℕ → Bool
 are_columns_here p columns = nat_lt 0 (length columns) && list_all (λ c. nat_lt c (length p.table.columns)) columns

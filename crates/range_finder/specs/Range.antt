@@ -176,4 +176,4 @@ is_in (Some range) key = is_within range.low range.high key
 abbrev pub NoneOutside : Type 0
 NoneOutside =
     (table : TableDef) (filter : Option Expr) (row : List Value) → IsTable table → IsFilter table filter → IsRow table row
-        → is_in (range table filter) (key_of table row) ≡ false → filter_val filter row ≢ Ok (IsTruth true)
+    → is_in (range table filter) (key_of table row) ≡ false → filter_val filter row ≢ Ok (IsTruth true)

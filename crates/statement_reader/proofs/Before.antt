@@ -29,7 +29,7 @@ before_table (table.First quantum n) = limit_words quantum ++ (key Table ∷ nam
 before_table (table.Second quantum n first) = limit_words quantum ++ (key Table ∷ name n ∷ sign Open ∷ name first ∷ key Int ∷ sign Comma ∷ [])
 before_table (table.Key quantum n first second) =
     limit_words quantum ++ (key Table ∷ name n ∷ sign Open ∷ name first ∷ key Int ∷ sign Comma ∷ name second ∷ key Int ∷ sign Comma
-        ∷ key Primary ∷ key Key ∷ sign Open ∷ [])
+    ∷ key Primary ∷ key Key ∷ sign Open ∷ [])
 
 abbrev pub head_words : RawHead → List Word
 head_words head = limit_words head.quantum ++ table_words head.table

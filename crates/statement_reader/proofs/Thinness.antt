@@ -47,7 +47,8 @@ load_thin t l h = record {
   some = simp (length-map, length-append) (omega arith);
   few = rw (length-map (rows_of l) row_of) h.few;
   rows = rows_thin (rows_of l) h.rows.fit;
-  rise = rise_thin (rows_of l) h.rows.rise }
+  rise = rise_thin (rows_of l) h.rows.rise;
+}
 
 few_loads : (load : Option RawLoad) → length (loads_of load) ≤ 1
 few_loads None = omega arith
@@ -65,7 +66,8 @@ thin_of raw h = record {
   thin = table_thin raw.head.table h.table;
   few_loads = few_loads raw.load;
   loads = loads_thin raw.head.table raw.load h.load;
-  sessions = refl }
+  sessions = refl;
+}
 
 pub spells_thin : (text : List ℕ) (s : Script) → Spells text s → IsThin s
 spells_thin text s h = subst IsThin (sym h.spelled.meant) (thin_of h.spelled.raw h.spelled.rules)
