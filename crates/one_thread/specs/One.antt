@@ -95,16 +95,16 @@ sooner None later = later
 abbrev pub one_on : TableDef → Statement → Records → Done
 one_on table (Select t columns predicate access) rows =
     done_unless (first_fault table predicate (λ row. None) rows) rows
-        (record { given = Ok (Rows (chosen columns (kinds table)) (map (packed columns) (filter (selects table predicate) rows))); records = rows })
+    (record { given = Ok (Rows (chosen columns (kinds table)) (map (packed columns) (filter (selects table predicate) rows))); records = rows })
 one_on table (Update t sets predicate access) rows =
     done_unless (first_fault table predicate (λ row. new_row_fault table (updated table sets row)) rows) rows
-        (record { given = Ok (Count (count_by (selects table predicate) rows)); records = map (λ row. if selects table predicate row then row_after table sets row else row) rows })
+    (record { given = Ok (Count (count_by (selects table predicate) rows)); records = map (λ row. if selects table predicate row then row_after table sets row else row) rows })
 one_on table (Delete t predicate access) rows =
     done_unless (first_fault table predicate (λ row. None) rows) rows
-        (record { given = Ok (Count (count_by (selects table predicate) rows)); records = filter (λ row. not (selects table predicate row)) rows })
+    (record { given = Ok (Count (count_by (selects table predicate) rows)); records = filter (λ row. not (selects table predicate row)) rows })
 one_on table (Insert t row) rows =
     done_unless (sooner (duplicate table row rows) (option_map (Faulted (key_of table row)) (first_failing table.checks row))) rows
-        (record { given = Ok Silent; records = placed table row rows })
+    (record { given = Ok Silent; records = placed table row rows })
 one_on table (LockTable t mode) rows = record { given = Ok Silent; records = rows }
 
 -- the tables and their records
