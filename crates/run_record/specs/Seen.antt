@@ -82,9 +82,18 @@ request_mode other = 0
 -- an entry at its place in the history of a partition
 abbrev pub seen_entry : ℕ → ℕ → Entry → Seen
 seen_entry part place e = record {
-    part = part; place = place; opener = e.opener; sync = e.sync; ordinal = e.request.ordinal;
-    request = request_number e.request.ask; reply = reply_number e.reply; cause = reply_cause e.reply;
-    rows = length (reply_rows e.reply); changed = reply_changed e.reply; mode = request_mode e.request.ask }
+  part = part;
+  place = place;
+  opener = e.opener;
+  sync = e.sync;
+  ordinal = e.request.ordinal;
+  request = request_number e.request.ask;
+  reply = reply_number e.reply;
+  cause = reply_cause e.reply;
+  rows = length (reply_rows e.reply);
+  changed = reply_changed e.reply;
+  mode = request_mode e.request.ask;
+}
 
 abbrev pub seen_from : ℕ → ℕ → List Entry → List Seen
 seen_from part place [] = []

@@ -18,7 +18,7 @@ abbrev pub ShowSessions : Script → RunRecord → ℕ → List (List Work) → 
 ShowSessions script kept session [] shown = shown ≡ []
 ShowSessions script kept session (works ∷ rest) shown =
     (attempts : List Attempt) × (later : List Shown) × Reads IsPart (requester script session) works (log_of kept session) attempts
-        × (shown ≡ map (shown_of (requester script session)) attempts ++ later) × ShowSessions script kept (session + 1) rest later
+    × (shown ≡ map (shown_of (requester script session)) attempts ++ later) × ShowSessions script kept (session + 1) rest later
 
 -- the bytes are the text of the record
 abbrev pub IsText : Script → RunRecord → List ℕ → Type 0

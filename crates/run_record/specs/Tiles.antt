@@ -111,7 +111,7 @@ Matches table (Select t columns predicate access) i held after r =
     (reply_rows r ≡ map (λ k. packed columns k.row) (filter (λ k. meets predicate k.row) (inside i held))) × (after ≡ held)
 Matches table (Update t sets predicate access) i held after r =
     (reply_changed r ≡ count_by (λ k. meets predicate k.row) (inside i held))
-        × (after ≡ map (λ k. if is_inside i k.key && meets predicate k.row then record { key = k.key; row = row_after table sets k.row } else k) held)
+    × (after ≡ map (λ k. if is_inside i k.key && meets predicate k.row then record { key = k.key; row = row_after table sets k.row } else k) held)
 Matches table (Delete t predicate access) i held after r =
     (reply_changed r ≡ count_by (λ k. meets predicate k.row) (inside i held)) × (after ≡ filter (λ k. not (is_inside i k.key && meets predicate k.row)) held)
 Matches table other i held after r = ⊥
@@ -124,10 +124,10 @@ pub record Around : Type 0 where
 abbrev pub around : Script → RunRecord → ℕ → ℕ → ℕ → Option Around
 around script kept session part sync =
     option_and_then
-        (λ p. option_map
-            (λ i. record { held = records (before p (history_of kept part) i).cells; after = records (before p (history_of kept part) (i + 1)).cells })
-            (position (λ e. (e.opener == session) && (e.sync == sync)) (history_of kept part)))
-        (slice_get (openings script) part)
+    (λ p. option_map
+    (λ i. record { held = records (before p (history_of kept part) i).cells; after = records (before p (history_of kept part) (i + 1)).cells })
+    (position (λ e. (e.opener == session) && (e.sync == sync)) (history_of kept part)))
+    (slice_get (openings script) part)
 
 abbrev pub MatchesAround : TableDef → Statement → Interval → PartitionReply → Option Around → Type 0
 MatchesAround table statement i r None = ⊥
@@ -170,7 +170,7 @@ abbrev pub IsAdded : List ℕ → List Value → Option Around → Type 0
 IsAdded key row None = ⊥
 IsAdded key row (Some a) =
     (front : List Keyed) × (back : List Keyed) × (a.held ≡ front ++ back) × (a.after ≡ front ++ record { key = key; row = row } ∷ back)
-        × AllByRecursion (λ k. key_eq k.key key ≡ false) a.held
+    × AllByRecursion (λ k. key_eq k.key key ≡ false) a.held
 
 abbrev pub StaysAround : Option Around → Type 0
 StaysAround None = ⊥
@@ -202,5 +202,5 @@ pub record IsFinished (script : Script) (session : ℕ) (a : Attempt) (statement
 abbrev pub FinishedTile : Script → RunRecord → Type 0
 FinishedTile script kept =
     (session : ℕ) (attempts : List Attempt) (a : Attempt) (statement : Statement) (part : List LogEntry) → Lies 1 (length script.sessions) session
-        → Reads IsPart (requester script session) (works_of script session) (log_of kept session) attempts → Contains attempts a
-        → IsFinished script session a statement part → Tiles script kept session statement part
+    → Reads IsPart (requester script session) (works_of script session) (log_of kept session) attempts → Contains attempts a
+    → IsFinished script session a statement part → Tiles script kept session statement part

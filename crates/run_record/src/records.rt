@@ -15,13 +15,25 @@ pub enum Act {
         passage: Passage,
     },
     /// A session takes the reply that it waits for.
-    Take { session: u32 },
+    Take {
+        session: u32,
+    },
     /// A session serves the End itself that its path lost as often as it is sent.
-    ByHand { session: u32, part: u32, sync: u64 },
+    ByHand {
+        session: u32,
+        part: u32,
+        sync: u64,
+    },
     /// A session draws its commit.
-    Draw { session: u32 },
+    Draw {
+        session: u32,
+    },
     /// A partition serves the oldest message of its mail.
-    Serve { part: u32, opener: u32, sync: u64 },
+    Serve {
+        part: u32,
+        opener: u32,
+        sync: u64,
+    },
 }
 
 /// All that is kept of a run. The partitions began with the LOAD rows of the script.
