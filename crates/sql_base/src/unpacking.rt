@@ -1,5 +1,5 @@
-ghost use Rattle.std.specs.Prelude.{◌≡◌, ◌≢◌, ◌≤◌, ◌↔◌, ℕ, length, sum_by, IsTrue, IfOk};
-ghost use Rattle.std.specs.Int.{w64, cast_signed, from_be_bytes};
+ghost use Rattle.std.specs.Prelude.{◌≡◌, ◌≢◌, ◌≤◌, ◌↔◌, ℕ, length, sum_by, true, false, IsTrue, IfOk};
+ghost use Rattle.std.specs.Int.{w64, cast_signed, from_be_bytes, is_in_range};
 ghost use Rattle.sql_base.specs.Rows.{is_printable, unpacked, unpacked_value, width};
 
 use crate::bytes::{Packed, Text};
@@ -21,7 +21,9 @@ pub enum UnpackFault {
 }
 
 impl From<NoMemory> for UnpackFault {
-    ghost from_gives = { λ _ fault. fault ≡ UnpackFault.NoMemory };
+    ghost use Rattle.sql_base.specs.declared.unpacking.UnpackFault.TheVariants.{NoMemory};
+
+    ghost from_gives = { λ _ fault. fault ≡ NoMemory };
 
     fn from(_error: NoMemory) -> UnpackFault {
         UnpackFault::NoMemory
@@ -87,9 +89,21 @@ fn unpack_text(alloc: Global, bytes: &[u8]) -> Result<Text, UnpackFault>
     ensures right_length { result ≢ Err UnpackFault.WrongLength }
     ensures not_printable { result ≡ Err UnpackFault.NotPrintable → is_printable bytes.now ≡ false }
 {
-    if !bytes.iter().all(|byte| (32..=126).contains(byte)) {
+    if !is_printable(bytes) {
         return Err(UnpackFault::NotPrintable);
     }
     let bytes = bytes.to_vec(alloc).map_err(NoMemory::from)?;
     Ok(Text::from_vec(bytes))
+}
+
+fn is_printable(bytes: &[u8]) -> bool
+    ensures { result ≡ is_printable bytes.now }
+{
+    bytes.iter().all(|byte| is_text_byte(*byte))
+}
+
+fn is_text_byte(byte: u8) -> bool
+    ensures { result ≡ is_in_range 32 126 byte }
+{
+    matches!(byte, 32..=126)
 }
