@@ -6,3 +6,4 @@ pub mod Serial
 pub mod Settled
 pub mod Seen
 pub mod Text
+pub mod ThinText

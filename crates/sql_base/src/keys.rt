@@ -38,7 +38,7 @@ fn append_key_value(key: &mut Vec<u8>, kind: ColumnKind, value: &Value) -> Resul
     Ok(())
 }
 
-fn width_of(kind: ColumnKind) -> usize
+pub fn width_of(kind: ColumnKind) -> usize
     ensures { result ≡ width kind }
 {
     match kind {

@@ -13,6 +13,7 @@ mod packing;
 mod scripts;
 mod statements;
 mod tables;
+mod unpacking;
 mod values;
 
 pub use bytes::{Code, Key, Name, Packed, Prefix, Text};
@@ -27,6 +28,7 @@ pub use packing::pack;
 pub use scripts::{Limits, Load, Script, Work};
 pub use statements::{Assign, Statement};
 pub use tables::{Column, ColumnKind, TableDef};
+pub use unpacking::{UnpackFault, unpack};
 pub use values::{Row, Value};
 
 #[cfg(test)]

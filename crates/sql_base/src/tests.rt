@@ -25,3 +25,25 @@ fn a_row_is_packed_in_the_order_of_the_list(rt: HostRuntime) -> Result<(), Fail>
     );
     Ok(())
 }
+
+#[test]
+fn packed_values_are_unpacked_by_their_kinds(rt: HostRuntime) -> Result<(), Fail> {
+    let alloc = rt.alloc();
+    let packed = Packed::from_vec(b"\xff\xff\xff\xff\xff\xff\xff\xfea b".to_vec(alloc)?);
+    let row = unpack(alloc, &packed, &[ColumnKind::Int, ColumnKind::Char(3)])?;
+    assert_eq!(rt; row.values().len(), 2);
+    assert!(rt; matches!(&row.values()[0], Value::Int(-2)));
+    assert!(rt; matches!(&row.values()[1], Value::Text(text) if text.bytes() == b"a b"));
+    Ok(())
+}
+
+#[test]
+fn bytes_that_are_no_row_are_refused(rt: HostRuntime) -> Result<(), Fail> {
+    let alloc = rt.alloc();
+    let nine = Packed::from_vec(b"\0\0\0\0\0\0\0\x01\0".to_vec(alloc)?);
+    let answer = unpack(alloc, &nine, &[ColumnKind::Int]);
+    assert!(rt; matches!(answer, Err(UnpackFault::WrongLength)));
+    let answer = unpack(alloc, &nine, &[ColumnKind::Int, ColumnKind::Char(1)]);
+    assert!(rt; matches!(answer, Err(UnpackFault::NotPrintable)));
+    Ok(())
+}
