@@ -29,7 +29,7 @@ abbrev pub AreRows : Requester → ℕ → ℕ → Ask → List (List LogEntry) 
 AreRows r ordinal part ask [] end = ⊥
 AreRows r ordinal part ask (row ∷ rows) end =
     (answer : Answer) × IsRow r.limits.patience part (record { ordinal = ordinal; ask = ask }) row answer
-        × AfterRow answer (λ subset last. AreRows r ordinal part (Continue subset last) rows end) rows end
+    × AfterRow answer (λ subset last. AreRows r ordinal part (Continue subset last) rows end) rows end
 
 abbrev pub joined : List (List LogEntry) → List LogEntry
 joined lists = flat_map (λ list. list) lists
@@ -128,15 +128,15 @@ greatest_of floors = fold max 0 floors
 abbrev pub Commits : Requester → Attempt → Type 0
 Commits r a =
     (floors : List ℕ) × (stamp : ℕ) × (prepares : List LogEntry) × (ends : List LogEntry)
-        × (a.ending ≡ prepares ++ Drew (record { session = r.number; ordinal = a.ordinal }) (greatest_of floors) (Stamp stamp) ∷ ends)
-        × ArePrepares a.ordinal (touched r a) prepares floors × AreEnds a.ordinal (EndCommit stamp) (touched r a) ends × (a.outcome ≡ Committed stamp)
+    × (a.ending ≡ prepares ++ Drew (record { session = r.number; ordinal = a.ordinal }) (greatest_of floors) (Stamp stamp) ∷ ends)
+    × ArePrepares a.ordinal (touched r a) prepares floors × AreEnds a.ordinal (EndCommit stamp) (touched r a) ends × (a.outcome ≡ Committed stamp)
 
 -- the path to one of the partitions loses the Prepare, and all is undone
 abbrev pub LosesPrepare : Requester → Attempt → Type 0
 LosesPrepare r a =
     (front : List ℕ) × (part : ℕ) × (back : List ℕ) × (floors : List ℕ) × (prepares : List LogEntry) × (lost : LogEntry) × (ends : List LogEntry)
-        × (touched r a ≡ front ++ part ∷ back) × (a.ending ≡ prepares ++ lost ∷ ends) × ArePrepares a.ordinal front prepares floors
-        × IsAsked part (record { ordinal = a.ordinal; ask = Prepare }) PathFailed lost × AreEnds a.ordinal EndUndo (touched r a) ends × (a.outcome ≡ Aborted PathLost)
+    × (touched r a ≡ front ++ part ∷ back) × (a.ending ≡ prepares ++ lost ∷ ends) × ArePrepares a.ordinal front prepares floors
+    × IsAsked part (record { ordinal = a.ordinal; ask = Prepare }) PathFailed lost × AreEnds a.ordinal EndUndo (touched r a) ends × (a.outcome ≡ Aborted PathLost)
 
 -- what follows the statements: undone where one failed or the script rolls back, else committed
 abbrev pub IsEnding : Requester → Attempt → Option Abort → Bool → Type 0
@@ -162,7 +162,7 @@ abbrev pub AreAttempts : (Requester → ℕ → Statement → List LogEntry → 
 AreAttempts P r ordinal [] attempts = attempts ≡ []
 AreAttempts P r ordinal (work ∷ works) attempts =
     (tries : List Attempt) × (rest : List Attempt) × (attempts ≡ tries ++ rest)
-        × AreTries P r work ordinal r.limits.restart tries × AreAttempts P r (ordinal + length tries) works rest
+    × AreTries P r work ordinal r.limits.restart tries × AreAttempts P r (ordinal + length tries) works rest
 
 -- the syncs of the Asked entries count on
 abbrev pub CountSyncs : ℕ → List LogEntry → Type 0

@@ -11,7 +11,10 @@ pub enum Action<'a> {
         request: &'a Request,
     },
     /// It draws the commit of its transaction, above the floor.
-    Commit { name: TxnName, floor: u64 },
+    Commit {
+        name: TxnName,
+        floor: u64,
+    },
     /// It has done all its transactions.
     Finished,
 }
