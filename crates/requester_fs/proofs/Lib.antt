@@ -1,1 +1,7 @@
+pub mod Lists
+pub mod ThinPlans
+pub mod Attempts
+pub mod Complete
+pub mod Sound
+pub mod Standing
 mod WorkedRows

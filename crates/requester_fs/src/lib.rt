@@ -2,5 +2,8 @@
 #![tactic(auto)]
 
 mod logs;
+mod places;
+mod sessions;
 
 pub use logs::{Action, Answer, LogEntry};
+pub use sessions::Session;

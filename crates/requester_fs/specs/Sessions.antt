@@ -1,0 +1,61 @@
+-- What contracts see of a session.
+use Rattle.std.specs.Prelude.{◌≡◌, ℕ, ◌-◌, List, [], ◌∷◌, ◌++◌, Bool, false, ◌↔◌}
+use Rattle.sql_base.specs.declared.lock_names.TxnName.{TxnName}
+use Rattle.sql_base.specs.declared.scripts.Limits.{Limits}
+use Rattle.sql_base.specs.declared.scripts.Script.{Script}
+use Rattle.dp_messages.specs.declared.replies.Reply.{Reply as PartitionReply}
+use Rattle.dp_messages.specs.declared.requests.Request.{Request}
+use Rattle.requester_fs.specs.declared.logs.Action.{Action}
+use Rattle.requester_fs.specs.declared.logs.Action.TheVariants.{Send, Commit, Finished}
+use Rattle.requester_fs.specs.declared.logs.Answer.{Answer}
+use Rattle.requester_fs.specs.declared.logs.Answer.TheVariants.{Reply, PathFailed, Stamp}
+use Rattle.requester_fs.specs.declared.logs.LogEntry.{LogEntry}
+use Rattle.requester_fs.specs.declared.logs.LogEntry.TheVariants.{Asked, Drew}
+use Rattle.requester_fs.specs.Follows.{in_line}
+use Rattle.requester_fs.specs.Rows.{IsSent, fits}
+use Rattle.requester_fs.specs.Thin.{IsThin}
+
+-- what a session does next: it sends a request to a partition, draws a commit above a floor, or has finished
+pub data Next : Type 0 where
+  Sends : ℕ → ℕ → Request → Next
+  Draws : TxnName → ℕ → Next
+  Ends : Next
+
+-- a session: the limits and the number that it was made with, its log, and what it does next
+pub record Working : Type 0 where
+  pub limits : Limits
+  pub number : ℕ
+  pub log : List LogEntry
+  pub next : Next
+
+-- an action, as contracts see it
+abbrev pub shown : Action → Next
+shown (Send part sync request) = Sends part sync request.now
+shown (Commit name floor) = Draws name floor
+shown Finished = Ends
+
+-- the reply may come to what is sent next
+abbrev pub fits_next : Next → PartitionReply → Bool
+fits_next (Sends part sync request) r = fits request.ask r
+fits_next (Draws name floor) r = false
+fits_next Ends r = false
+
+-- the answer may come of what is done next, after so many losses
+abbrev pub MayCome : Next → Answer → ℕ → Type 0
+MayCome (Sends part sync request) answer losses = IsSent request.ask losses answer
+MayCome (Draws name floor) (Stamp stamp) losses = Unit {0}
+MayCome (Draws name floor) answer losses = ⊥
+MayCome Ends answer losses = ⊥
+
+-- what the log keeps of it
+abbrev pub entries_kept : Next → Answer → ℕ → List LogEntry
+entries_kept (Sends part sync request) answer losses = Asked part sync request losses answer ∷ []
+entries_kept (Draws name floor) answer losses = Drew name floor answer ∷ []
+entries_kept Ends answer losses = []
+
+-- the session is that of the script with this number: its log is the beginning of one that the script allows, and it has finished where it is whole
+pub record IsSessionOf (script : Script) (number : ℕ) (s : Working) : Type 0 where
+  pub limits : s.limits ≡ script.limits
+  pub number_is : s.number ≡ number
+  pub goes_on : (rest : List LogEntry) × in_line script number (s.log ++ rest)
+  pub ends_where_whole : (s.next ≡ Ends) ↔ in_line script number s.log
