@@ -1,4 +1,5 @@
 pub mod Choosing
 pub mod KeyColumns
+pub mod KeyOrder
 pub mod Trees
 mod WorkedRows

@@ -5,3 +5,4 @@ pub mod Only
 pub mod Rising
 pub mod Spelling
 pub mod Thinness
+pub mod ThinScripts
