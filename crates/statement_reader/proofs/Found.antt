@@ -3,7 +3,7 @@ use Rattle.std.proofs.Common.{◌≡◌, ℕ, List, [], ◌∷◌, ◌++◌, Boo
 use Rattle.std.proofs.lemmas.Grind.{flat_map-append}
 use Rattle.std.proofs.lemmas.List.{append-nil}
 use Rattle.std.proofs.lemmas.Option.{option_and_then_some}
-use Rattle.std.specs.Prelude.{map, option_map, option_and_then}
+use Rattle.std.specs.Prelude.{map, option_map}
 use Rattle.statement_words.specs.declared.tokens.Token.{Token}
 use Rattle.statement_words.specs.declared.tokens.Word.{Word}
 use Rattle.statement_words.specs.declared.tokens.Word.TheVariants as word
@@ -24,10 +24,10 @@ use Rattle.statement_reader.specs.declared.places.LoadPlace.{LoadPlace}
 use Rattle.statement_reader.specs.declared.places.LoadPlace.TheVariants as load
 use Rattle.statement_reader.specs.declared.places.SelectPlace.{SelectPlace}
 use Rattle.statement_reader.specs.declared.places.SelectPlace.TheVariants as select
-use Rattle.statement_reader.specs.Grammar.{key, sign, name, number, script_words, row_words}
-use Rattle.statement_reader.specs.Reading.{Standing, behind, is_fixed, named, numbered, limit_step, table_step, table_named, after_table, after_row, load_step, select_step, select_named, place_step, step_at, step, finish_at, finish, read_from, start, read}
+use Rattle.statement_reader.specs.Grammar.{script_words}
+use Rattle.statement_reader.specs.Reading.{Standing, behind, is_fixed, named, numbered, limit_step, table_named, after_table, after_row, load_step, select_named, place_step, step_at, step, finish_at, read_from, start, read}
 use Rattle.statement_reader.proofs.Fixed.{fixed_word, is_fixed-true, named-some, numbered-some}
-use Rattle.statement_reader.proofs.Before.{before, before_limit, before_table, before_load, before_select, head_words, earlier_words}
+use Rattle.statement_reader.proofs.Before.{before}
 
 abbrev fixed_words : List Fixed → List Word
 fixed_words fs = map fixed_word fs
@@ -71,7 +71,7 @@ nothing p w s h = cc
 limit_grows : (p : LimitPlace) (w : Word) (s : Standing) → limit_step p w ≡ Some s → Grows (place.Limit p) w s
 limit_grows limit.Any w s h =
     by_fixed (place.Limit limit.Any) w (fixed.Keyword Quantum) _ s _ refl
-        (λ g. by_fixed (place.Limit limit.Any) w (fixed.Keyword Table) _ s None refl (nothing (place.Limit limit.Any) w s) g) h
+    (λ g. by_fixed (place.Limit limit.Any) w (fixed.Keyword Table) _ s None refl (nothing (place.Limit limit.Any) w s) g) h
 limit_grows limit.Quantum w s h = by_number (place.Limit limit.Quantum) w _ s (λ n. refl) h
 
 table_grows : (p : TablePlace) (n : List ℕ) → Grows (place.Table p) (word.Name n) (table_named p n)
@@ -83,12 +83,12 @@ table_grows (table.Key quantum t first second) n = simp append_assoc
 after_table_grows : (head : RawHead) (w : Word) (s : Standing) → after_table head w ≡ Some s → Grows (place.Load (load.Any head)) w s
 after_table_grows head w s h =
     by_fixed (place.Load (load.Any head)) w (fixed.Keyword Load) _ s _ refl
-        (λ g. by_fixed (place.Load (load.Any head)) w (fixed.Keyword Session) _ s None refl (nothing (place.Load (load.Any head)) w s) g) h
+    (λ g. by_fixed (place.Load (load.Any head)) w (fixed.Keyword Session) _ s None refl (nothing (place.Load (load.Any head)) w s) g) h
 
 after_row_grows : (head : RawHead) (l : RawLoad) (w : Word) (s : Standing) → after_row head l w ≡ Some s → Grows (place.Load (load.More head l)) w s
 after_row_grows head l w s h =
     by_fixed (place.Load (load.More head l)) w (fixed.Sign Comma) _ s _ (simp (append_assoc, flat_map-append))
-        (λ g. by_fixed (place.Load (load.More head l)) w (fixed.Sign Semicolon) _ s None (simp append_assoc) (nothing (place.Load (load.More head l)) w s) g) h
+    (λ g. by_fixed (place.Load (load.More head l)) w (fixed.Sign Semicolon) _ s None (simp append_assoc) (nothing (place.Load (load.More head l)) w s) g) h
 
 load_grows : (p : LoadPlace) (w : Word) (s : Standing) → load_step p w ≡ Some s → Grows (place.Load p) w s
 load_grows (load.Any head) w s h = after_table_grows head w s h
@@ -121,7 +121,7 @@ step_reads front w [] p next reads h =
     append_assoc front (w ∷ []) (fixed_words next.awaited) ∙ ap (λ f. f ++ (w ∷ fixed_words next.awaited)) front-is ∙ grows
 step_reads front w (f ∷ fs) p next reads h =
     chosen (is_fixed w f) (behind fs p) next None (Reads (front ++ w ∷ []) next)
-        (λ is same. by_word (is_fixed-true w f is) same) (λ g. cc) h
+    (λ is same. by_word (is_fixed-true w f is) same) (λ g. cc) h
   where
     by_word : w ≡ fixed_word f → behind fs p ≡ next → Reads (front ++ w ∷ []) next
     by_word is same = rw (← same, is) (append_assoc front (fixed_word f ∷ []) (fixed_words fs) ∙ reads)
@@ -143,8 +143,8 @@ unfolding read_from step
 found_from [] front s raw reads h = append-nil front ∙ ended front s.awaited s.place raw reads h
 found_from (t ∷ ts) front s raw reads h =
     option_and_then_some (λ next. read_from next ts) (step s t.word) raw h (λ next is more.
-        sym (append_assoc front (t.word ∷ []) (map (λ u. u.word) ts))
-            ∙ found_from ts (front ++ t.word ∷ []) next raw (step_reads front t.word s.awaited s.place next reads is) more)
+    sym (append_assoc front (t.word ∷ []) (map (λ u. u.word) ts))
+    ∙ found_from ts (front ++ t.word ∷ []) next raw (step_reads front t.word s.awaited s.place next reads is) more)
 
 -- the tokens from which a script is read are on its words
 pub found : (tokens : List Token) (raw : Raw) → read tokens ≡ Some raw → map (λ t. t.word) tokens ≡ script_words raw

@@ -13,7 +13,7 @@ use Rattle.statement_reader.specs.declared.raw.RawSelect.{RawSelect}
 use Rattle.statement_reader.specs.declared.raw.Raw.{Raw}
 use Rattle.statement_reader.specs.declared.places.Place.TheVariants as place
 use Rattle.statement_reader.specs.declared.places.LoadPlace.TheVariants as load
-use Rattle.statement_reader.specs.Grammar.{sign, limit_words, table_words, row_words, rows_words, load_words, session_words, script_words}
+use Rattle.statement_reader.specs.Grammar.{sign, limit_words, table_words, row_words, load_words, session_words, script_words}
 use Rattle.statement_reader.specs.Reading.{Standing, behind, open_sign, step, finish, read_from, start, read}
 use Rattle.statement_reader.proofs.Before.{earlier_words}
 
@@ -36,12 +36,12 @@ behind_row head name last earlier = behind [] (place.Load (load.More head (recor
 -- the rows of a LOAD, from an opening parenthesis on
 rows_read : (head : RawHead) (name : List ℕ) (done more : List RawRow) (last : RawRow) (rest : List Word)
     → read_words (behind (open_sign ∷ []) (place.Load (load.Key head name done))) (earlier_words more ++ (row_words last ++ rest))
-        ≡ read_words (behind_row head name last (done ++ more)) rest
+    ≡ read_words (behind_row head name last (done ++ more)) rest
 unfolding read_words step
 rows_read head name done [] last rest = ap (λ rows. read_words (behind_row head name last rows) rest) (sym (append-nil done))
 rows_read head name done (r ∷ more) last rest =
     rows_read head name (done ++ r ∷ []) more last rest
-        ∙ ap (λ rows. read_words (behind_row head name last rows) rest) (append_assoc done (r ∷ []) more)
+    ∙ ap (λ rows. read_words (behind_row head name last rows) rest) (append_assoc done (r ∷ []) more)
 
 from_load : (head : RawHead) (l : Option RawLoad) (s : RawSelect)
     → read_words (behind [] (place.Load (load.Any head))) (load_words l ++ session_words s) ≡ Some (record { head = head; load = l; select = s })
@@ -49,12 +49,12 @@ unfolding read_words step
 from_load head None s = refl
 from_load head (Some l) s =
     ap (read_words (behind (open_sign ∷ []) (place.Load (load.Key head l.table []))))
-        (regroup (earlier_words l.earlier) (row_words l.last) (sign Semicolon ∷ []) (session_words s))
-        ∙ rows_read head l.table [] l.earlier l.last (sign Semicolon ∷ session_words s)
+    (regroup (earlier_words l.earlier) (row_words l.last) (sign Semicolon ∷ []) (session_words s))
+    ∙ rows_read head l.table [] l.earlier l.last (sign Semicolon ∷ session_words s)
 
 from_start : (quantum : Option ℕ) (t : RawTable) (l : Option RawLoad) (s : RawSelect)
     → read_words start (limit_words quantum ++ (table_words t ++ (load_words l ++ session_words s)))
-        ≡ Some (record { head = record { quantum = quantum; table = t }; load = l; select = s })
+    ≡ Some (record { head = record { quantum = quantum; table = t }; load = l; select = s })
 unfolding read_words step
 from_start None t l s = from_load (record { quantum = None; table = t }) l s
 from_start (Some n) t l s = from_load (record { quantum = Some n; table = t }) l s

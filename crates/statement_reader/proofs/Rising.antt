@@ -1,5 +1,5 @@
 -- What checking the rows one after the other says of them all.
-use Rattle.std.proofs.Common.{◌≡◌, ◌≤◌, ◌<◌, ◌^◌, ℕ, List, [], ◌∷◌, Bool, true, false, ◌&&◌, ltb, Option, Some, None, arith, refl}
+use Rattle.std.proofs.Common.{◌≡◌, ◌^◌, ℕ, List, [], ◌∷◌, Bool, true, false, ◌&&◌, ltb, Option, Some, None, refl}
 use Rattle.std.proofs.lemmas.Bool.{ltb-true, lt-ltb}
 use Rattle.std.specs.List.{AllByRecursion}
 use Rattle.statement_reader.specs.declared.raw.RawRow.{RawRow}
@@ -27,7 +27,7 @@ row_rises last row h =
 row_again : (last : Option ℕ) (row : RawRow) → is_above last row.key ≡ true → IsRow row → row_holds last row ≡ true
 row_again last row above fits =
     joined (is_above last row.key && ltb row.key (2 ^ 63)) (ltb row.value (2 ^ 63))
-        (joined (is_above last row.key) (ltb row.key (2 ^ 63)) above (lt-ltb row.key (2 ^ 63) fits.key)) (lt-ltb row.value (2 ^ 63) fits.value)
+    (joined (is_above last row.key) (ltb row.key (2 ^ 63)) above (lt-ltb row.key (2 ^ 63) fits.key)) (lt-ltb row.value (2 ^ 63) fits.value)
 
 fit : (last : Option ℕ) (rows : List RawRow) → rows_hold last rows ≡ true → AllByRecursion IsRow rows
 fit last [] h = tt
@@ -52,7 +52,7 @@ behind : (row : RawRow) (rows : List RawRow) → AllByRecursion IsRow rows → R
 behind row [] fits rises = refl
 behind row (next ∷ rows) fits rises =
     joined (row_holds (Some row.key) next) (rows_hold (Some next.key) rows)
-        (row_again (Some row.key) next (lt-ltb row.key next.key rises.0) fits.0) (behind next rows fits.1 rises.1)
+    (row_again (Some row.key) next (lt-ltb row.key next.key rises.0) fits.0) (behind next rows fits.1 rises.1)
 
 pub are-rows_hold : (rows : List RawRow) → AreRows rows → rows_hold None rows ≡ true
 are-rows_hold [] are = refl

@@ -1,10 +1,10 @@
 -- A script that is spelled is thin.
-use Rattle.std.proofs.Common.{◌≡◌, ◌≤◌, ◌<◌, ◌^◌, ℕ, List, [], ◌∷◌, ◌++◌, length, Option, Some, None, refl, sym, ap, ◌∙◌, subst, arith, length-append, ◌≢◌, Bool, true, false}
+use Rattle.std.proofs.Common.{◌≡◌, ◌≤◌, ℕ, List, [], ◌∷◌, length, Option, Some, None, refl, sym, subst, arith, length-append, ◌≢◌, Bool, true, false}
 use Rattle.std.proofs.lemmas.List.{length-map}
 use Rattle.std.proofs.lemmas.Slice.Eq.{bytes_eq-Decides}
 use Rattle.std.specs.Str.{bytes_eq}
 use Rattle.sql_base.specs.Tables.{all_differ}
-use Rattle.std.specs.Prelude.{map, unwrap_or}
+use Rattle.std.specs.Prelude.{map}
 use Rattle.std.specs.List.{AllByRecursion}
 use Rattle.sql_base.specs.declared.scripts.Script.{Script}
 use Rattle.statement_reader.specs.declared.raw.Raw.{Raw}
@@ -12,7 +12,7 @@ use Rattle.statement_reader.specs.declared.raw.RawRow.{RawRow}
 use Rattle.statement_reader.specs.declared.raw.RawLoad.{RawLoad}
 use Rattle.statement_reader.specs.declared.raw.RawTable.{RawTable}
 use Rattle.statement_reader.specs.Meaning.{limits_of, table_of, row_of, loads_of, script_of}
-use Rattle.statement_reader.specs.Rules.{IsQuantum, IsTable, IsRow, Rise, AreRows, rows_of, IsLoad, IsAnyLoad, MeetsRules}
+use Rattle.statement_reader.specs.Rules.{IsQuantum, IsTable, IsRow, Rise, rows_of, IsLoad, IsAnyLoad, MeetsRules}
 use Rattle.statement_reader.specs.Spells.{Spells}
 use Rattle.statement_reader.specs.Thin as thin
 use Rattle.statement_reader.specs.Thin.{AreThinLimits, IsThinTable, IsThinRow, IsThinLoad, IsThin}
@@ -47,7 +47,8 @@ load_thin t l h = record {
   some = simp (length-map, length-append) (omega arith);
   few = rw (length-map (rows_of l) row_of) h.few;
   rows = rows_thin (rows_of l) h.rows.fit;
-  rise = rise_thin (rows_of l) h.rows.rise }
+  rise = rise_thin (rows_of l) h.rows.rise;
+}
 
 few_loads : (load : Option RawLoad) → length (loads_of load) ≤ 1
 few_loads None = omega arith
@@ -65,7 +66,8 @@ thin_of raw h = record {
   thin = table_thin raw.head.table h.table;
   few_loads = few_loads raw.load;
   loads = loads_thin raw.head.table raw.load h.load;
-  sessions = refl }
+  sessions = refl;
+}
 
 pub spells_thin : (text : List ℕ) (s : Script) → Spells text s → IsThin s
 spells_thin text s h = subst IsThin (sym h.spelled.meant) (thin_of h.spelled.raw h.spelled.rules)

@@ -79,5 +79,4 @@ pub fn read_script(alloc: Global, text: &[u8]) -> Result<Script, ReadFault>
 /// The bytes spell one script at the most.
 pub fn one_script()
     ensures { (text : List ℕ) (a b : script.Script) → Spells text a → Spells text b → a ≡ b }
-{
-}
+{}

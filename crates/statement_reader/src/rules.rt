@@ -78,9 +78,7 @@ fn rows_rise(load: &RawLoad) -> bool
 fn load_holds(table: &RawTable, load: &RawLoad) -> bool
     ensures { IsTrue result ↔ IsLoad table.now load.now }
 {
-    is_same(&load.table, &table.name)
-        && load.earlier.items().len() < ROW_LIMIT
-        && rows_rise(load)
+    is_same(&load.table, &table.name) && load.earlier.items().len() < ROW_LIMIT && rows_rise(load)
 }
 
 fn any_load_holds(table: &RawTable, load: &Option<RawLoad>) -> bool

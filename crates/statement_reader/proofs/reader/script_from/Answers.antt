@@ -12,4 +12,4 @@ returns-then-not-meets_rules-clause-none c =
 pub returns-clause-found : goal.returns-clause-found
 returns-clause-found c =
     spelled c.args.tokens.now c.in-Some.raw c.in_ok-script_of.field-0 (sym c.in_ok-raw.ensures ∙ c.in-Some.is)
-        (c.meets_rules.ensures.0 (cc (c.if-not-meets_rules.false))) c.in_ok-script_of.ensures
+    (c.meets_rules.ensures.0 (cc (c.if-not-meets_rules.false))) c.in_ok-script_of.ensures
