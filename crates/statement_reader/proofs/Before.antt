@@ -1,12 +1,11 @@
 -- The words that stand before a place.
-use Rattle.std.proofs.Common.{ℕ, List, [], ◌∷◌, ◌++◌, Option, Some}
+use Rattle.std.proofs.Common.{List, [], ◌∷◌, ◌++◌}
 use Rattle.std.specs.Prelude.{flat_map}
 use Rattle.statement_words.specs.declared.tokens.Word.{Word}
 use Rattle.statement_words.specs.declared.keywords.Keyword.TheVariants.{Quantum, Table, Int, Primary, Key, Load, Session, Select, From}
 use Rattle.statement_words.specs.declared.tokens.Sign.TheVariants.{Open, Comma, Semicolon}
 use Rattle.statement_reader.specs.declared.raw.RawHead.{RawHead}
 use Rattle.statement_reader.specs.declared.raw.RawRow.{RawRow}
-use Rattle.statement_reader.specs.declared.raw.Raw.{Raw}
 use Rattle.statement_reader.specs.declared.places.Place.{Place}
 use Rattle.statement_reader.specs.declared.places.Place.TheVariants as place
 use Rattle.statement_reader.specs.declared.places.LimitPlace.{LimitPlace}
@@ -17,7 +16,7 @@ use Rattle.statement_reader.specs.declared.places.LoadPlace.{LoadPlace}
 use Rattle.statement_reader.specs.declared.places.LoadPlace.TheVariants as load
 use Rattle.statement_reader.specs.declared.places.SelectPlace.{SelectPlace}
 use Rattle.statement_reader.specs.declared.places.SelectPlace.TheVariants as select
-use Rattle.statement_reader.specs.Grammar.{key, sign, name, number, limit_words, table_words, row_words, rows_words, load_words, session_words, script_words}
+use Rattle.statement_reader.specs.Grammar.{key, sign, name, number, limit_words, table_words, row_words, rows_words, load_words, script_words}
 
 abbrev pub before_limit : LimitPlace → List Word
 before_limit limit.Any = []

@@ -1,8 +1,7 @@
 -- A fixed word is known by how it is written.
-use Rattle.std.proofs.Common.{◌≡◌, ℕ, List, Bool, true, Option, Some, None, Ok, refl, sym, ap, ◌∙◌}
+use Rattle.std.proofs.Common.{◌≡◌, ℕ, List, true, Option, Some, None, Ok, refl, sym, ap, ◌∙◌}
 use Rattle.std.specs.Str.{bytes_eq}
 use Rattle.std.proofs.lemmas.Slice.Eq.{bytes_eq-Decides}
-use Rattle.std.specs.Prelude.{option_map}
 use Rattle.statement_words.specs.declared.tokens.Sign.{Sign}
 use Rattle.statement_words.specs.declared.tokens.Sign.TheVariants as sign
 use Rattle.statement_words.specs.declared.tokens.Word.{Word}
@@ -10,8 +9,7 @@ use Rattle.statement_words.specs.declared.tokens.Word.TheVariants as word
 use Rattle.statement_words.specs.declared.keywords.Keyword.{Keyword}
 use Rattle.statement_words.specs.Keywords.{spelling, keyword_of}
 use Rattle.statement_words.specs.Spans.{sign_spelling}
-use Rattle.statement_words.specs.Words.{sign_at, Piece}
-use Rattle.statement_words.specs.Reading.{Place}
+use Rattle.statement_words.specs.Words.{sign_at}
 use Rattle.statement_words.proofs.Spelled.{keyword_of-spelling}
 use Rattle.statement_reader.specs.declared.fixed_words.Fixed.{Fixed}
 use Rattle.statement_reader.specs.declared.fixed_words.Fixed.TheVariants as fixed

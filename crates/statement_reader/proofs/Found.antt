@@ -3,7 +3,7 @@ use Rattle.std.proofs.Common.{◌≡◌, ℕ, List, [], ◌∷◌, ◌++◌, Boo
 use Rattle.std.proofs.lemmas.Grind.{flat_map-append}
 use Rattle.std.proofs.lemmas.List.{append-nil}
 use Rattle.std.proofs.lemmas.Option.{option_and_then_some}
-use Rattle.std.specs.Prelude.{map, option_map, option_and_then}
+use Rattle.std.specs.Prelude.{map, option_map}
 use Rattle.statement_words.specs.declared.tokens.Token.{Token}
 use Rattle.statement_words.specs.declared.tokens.Word.{Word}
 use Rattle.statement_words.specs.declared.tokens.Word.TheVariants as word
@@ -24,10 +24,10 @@ use Rattle.statement_reader.specs.declared.places.LoadPlace.{LoadPlace}
 use Rattle.statement_reader.specs.declared.places.LoadPlace.TheVariants as load
 use Rattle.statement_reader.specs.declared.places.SelectPlace.{SelectPlace}
 use Rattle.statement_reader.specs.declared.places.SelectPlace.TheVariants as select
-use Rattle.statement_reader.specs.Grammar.{key, sign, name, number, script_words, row_words}
-use Rattle.statement_reader.specs.Reading.{Standing, behind, is_fixed, named, numbered, limit_step, table_step, table_named, after_table, after_row, load_step, select_step, select_named, place_step, step_at, step, finish_at, finish, read_from, start, read}
+use Rattle.statement_reader.specs.Grammar.{script_words}
+use Rattle.statement_reader.specs.Reading.{Standing, behind, is_fixed, named, numbered, limit_step, table_named, after_table, after_row, load_step, select_named, place_step, step_at, step, finish_at, read_from, start, read}
 use Rattle.statement_reader.proofs.Fixed.{fixed_word, is_fixed-true, named-some, numbered-some}
-use Rattle.statement_reader.proofs.Before.{before, before_limit, before_table, before_load, before_select, head_words, earlier_words}
+use Rattle.statement_reader.proofs.Before.{before}
 
 abbrev fixed_words : List Fixed → List Word
 fixed_words fs = map fixed_word fs

@@ -13,7 +13,7 @@ use Rattle.statement_reader.specs.declared.raw.RawSelect.{RawSelect}
 use Rattle.statement_reader.specs.declared.raw.Raw.{Raw}
 use Rattle.statement_reader.specs.declared.places.Place.TheVariants as place
 use Rattle.statement_reader.specs.declared.places.LoadPlace.TheVariants as load
-use Rattle.statement_reader.specs.Grammar.{sign, limit_words, table_words, row_words, rows_words, load_words, session_words, script_words}
+use Rattle.statement_reader.specs.Grammar.{sign, limit_words, table_words, row_words, load_words, session_words, script_words}
 use Rattle.statement_reader.specs.Reading.{Standing, behind, open_sign, step, finish, read_from, start, read}
 use Rattle.statement_reader.proofs.Before.{earlier_words}
 

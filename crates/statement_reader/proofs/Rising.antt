@@ -1,5 +1,5 @@
 -- What checking the rows one after the other says of them all.
-use Rattle.std.proofs.Common.{◌≡◌, ◌≤◌, ◌<◌, ◌^◌, ℕ, List, [], ◌∷◌, Bool, true, false, ◌&&◌, ltb, Option, Some, None, arith, refl}
+use Rattle.std.proofs.Common.{◌≡◌, ◌^◌, ℕ, List, [], ◌∷◌, Bool, true, false, ◌&&◌, ltb, Option, Some, None, refl}
 use Rattle.std.proofs.lemmas.Bool.{ltb-true, lt-ltb}
 use Rattle.std.specs.List.{AllByRecursion}
 use Rattle.statement_reader.specs.declared.raw.RawRow.{RawRow}

@@ -1,5 +1,5 @@
 -- Tokens spell one script at the most: the one that is read.
-use Rattle.std.proofs.Common.{◌≡◌, ◌≤◌, ℕ, List, [], ◌∷◌, ◌++◌, length, Option, Some, None, Result, Ok, Err, refl, sym, ap, ◌∙◌, subst}
+use Rattle.std.proofs.Common.{◌≡◌, ℕ, List, Option, Some, None, Result, Ok, Err, sym, ap, ◌∙◌, subst}
 use Rattle.std.specs.Prelude.{map, IfOk, IfNone}
 use Rattle.sql_base.specs.declared.faults.NoMemory.{NoMemory}
 use Rattle.sql_base.specs.declared.scripts.Script.{Script}

@@ -1,10 +1,10 @@
 -- A script that is spelled is thin.
-use Rattle.std.proofs.Common.{◌≡◌, ◌≤◌, ◌<◌, ◌^◌, ℕ, List, [], ◌∷◌, ◌++◌, length, Option, Some, None, refl, sym, ap, ◌∙◌, subst, arith, length-append, ◌≢◌, Bool, true, false}
+use Rattle.std.proofs.Common.{◌≡◌, ◌≤◌, ℕ, List, [], ◌∷◌, length, Option, Some, None, refl, sym, subst, arith, length-append, ◌≢◌, Bool, true, false}
 use Rattle.std.proofs.lemmas.List.{length-map}
 use Rattle.std.proofs.lemmas.Slice.Eq.{bytes_eq-Decides}
 use Rattle.std.specs.Str.{bytes_eq}
 use Rattle.sql_base.specs.Tables.{all_differ}
-use Rattle.std.specs.Prelude.{map, unwrap_or}
+use Rattle.std.specs.Prelude.{map}
 use Rattle.std.specs.List.{AllByRecursion}
 use Rattle.sql_base.specs.declared.scripts.Script.{Script}
 use Rattle.statement_reader.specs.declared.raw.Raw.{Raw}
@@ -12,7 +12,7 @@ use Rattle.statement_reader.specs.declared.raw.RawRow.{RawRow}
 use Rattle.statement_reader.specs.declared.raw.RawLoad.{RawLoad}
 use Rattle.statement_reader.specs.declared.raw.RawTable.{RawTable}
 use Rattle.statement_reader.specs.Meaning.{limits_of, table_of, row_of, loads_of, script_of}
-use Rattle.statement_reader.specs.Rules.{IsQuantum, IsTable, IsRow, Rise, AreRows, rows_of, IsLoad, IsAnyLoad, MeetsRules}
+use Rattle.statement_reader.specs.Rules.{IsQuantum, IsTable, IsRow, Rise, rows_of, IsLoad, IsAnyLoad, MeetsRules}
 use Rattle.statement_reader.specs.Spells.{Spells}
 use Rattle.statement_reader.specs.Thin as thin
 use Rattle.statement_reader.specs.Thin.{AreThinLimits, IsThinTable, IsThinRow, IsThinLoad, IsThin}

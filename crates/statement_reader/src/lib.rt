@@ -20,3 +20,6 @@ mod tables;
 
 pub use faults::{ReadFault, Reason, ScriptFault};
 pub use reader::{one_script, read_script};
+
+#[cfg(test)]
+mod tests;

@@ -1,5 +1,5 @@
 -- Where the words of a script stand, and how each is written.
-use Rattle.std.specs.Prelude.{◌≡◌, ◌≤◌, ◌<◌, ℕ, List, [], ◌∷◌, ◌++◌, flat_map, length, slice_range, codes, if◌then◌else◌, ◌==◌}
+use Rattle.std.specs.Prelude.{◌≡◌, ◌≤◌, ◌<◌, ℕ, List, [], ◌∷◌, ◌++◌, flat_map, slice_range, codes, if◌then◌else◌, ◌==◌}
 use Rattle.std.specs.List.{AllPass}
 use Rattle.std.specs.Char.{is_ascii_digit}
 use Rattle.statement_words.specs.declared.tokens.Sign.{Sign}

@@ -1,5 +1,6 @@
 ghost use Rattle.std.specs.Prelude.{◌≡◌, ◌+◌, ◌<◌, ◌≤◌, ◌^◌, length, drop, IfOk};
 ghost use Rattle.statement_words.specs.Reading.{Gives};
+ghost use Rattle.statement_words.specs.Spans.{Stand};
 ghost use Rattle.statement_words.specs.Words.{is_separator, word_at, words_step, words_of};
 
 use crate::faults::{WordFault, WordReason};
@@ -74,10 +75,10 @@ fn words_step(
     Ok(len.saturating_sub(1))
 }
 
-/// The words of a script, or the first fault of its bytes.
+/// The tokens of the bytes, or their first fault.
 #[tactic(auto, unfolding(crate::specs::Words::words_from))]
-pub fn words(alloc: Global, text: &[u8]) -> Result<List<Token>, WordFault>
-    requires { length text.now ≤ SCRIPT_LIMIT }
+fn tokens_of(alloc: Global, text: &[u8]) -> Result<List<Token>, WordFault>
+    requires { length text.now < 2 ^ 31 }
     ensures { Gives (λ x. x) result (words_of text.now) }
 {
     let mut tokens = List::new(alloc);
@@ -86,4 +87,15 @@ pub fn words(alloc: Global, text: &[u8]) -> Result<List<Token>, WordFault>
         skip = words_step(alloc, &mut tokens, skip, at as u32, text)?;
     }
     Ok(tokens)
+}
+
+/// The words of a script, or the first fault of its bytes.
+pub fn words(alloc: Global, text: &[u8]) -> Result<List<Token>, WordFault>
+    requires { length text.now ≤ SCRIPT_LIMIT }
+    // Which words they are, and which fault it is.
+    ensures same { Gives (λ x. x) result (words_of text.now) }
+    // Each stands on bytes that are a way to write it, one behind the other.
+    ensures stand { IfOk result (λ tokens. Stand text.now 0 tokens (length text.now)) }
+{
+    tokens_of(alloc, text)
 }
