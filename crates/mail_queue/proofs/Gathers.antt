@@ -1,0 +1,110 @@
+-- What a keeper that takes the tokens in knows.
+use Rattle.std.proofs.Common.{◌≡◌, ◌≢◌, ℕ, ◌+◌, ◌<◌, List, [], ◌∷◌, ◌++◌, map, length, Option, Some, None, sym, ap, ◌∙◌, refl, subst, arith}
+use Rattle.std.specs.Prelude.{IsSome, Any}
+use Rattle.std.specs.List.{Contains}
+use Rattle.std.proofs.lemmas.List.{append-nil, append_assoc, length-map, get_or-map}
+use Rattle.crossbeam_queue.specs.Fifo.{Learns, Held}
+use Rattle.crossbeam_queue.specs.Passes.{Pass, view}
+use Rattle.mail_queue.specs.declared.hand.Crew.{Crew}
+use Rattle.mail_queue.specs.declared.hand.Hand.{Hand}
+use Rattle.mail_queue.specs.Hands.{times, HasNumbers, Balances, posters_of, takers_of, idle_hand, both_hands, Stands}
+use Rattle.mail_queue.specs.Tokens.{MailId, Posting, Taking, crew_of, posting_hand, taking_hand}
+use Rattle.mail_queue.specs.Gathering.{HasEachNumber, HasAllNumbers, posted_by, taken_by, with_posters, with_takers}
+use Rattle.mail_queue.specs.Insides.{mail_of, IsPosterPass, IsTakerPass}
+use Rattle.mail_queue.proofs.Times.{times-append}
+use Rattle.mail_queue.proofs.Whole.{settles}
+
+whole_crew : (crew : Option Crew) → IsSome crew → crew ≡ Some (record { posters = posters_of crew; takers = takers_of crew })
+whole_crew (Some crew) known = refl
+whole_crew None known = cc
+
+module _ {M : Type 0} where
+  -- a token's pass knows what contracts see of the token
+  pub poster_knows : (number : ℕ) (pass : Pass M Hand) → IsPosterPass number pass → view pass ≡ posting_hand (record { mail = mail_of pass; number = number; posted = (view pass).posted })
+  poster_knows number pass is = λ i. record {
+    crew = whole_crew (view pass).crew is.crew i;
+    posters = is.posters i;
+    takers = is.takers i;
+    posted = (view pass).posted;
+    taken = is.taken i;
+  }
+
+  pub taker_knows : (number : ℕ) (pass : Pass M Hand) → IsTakerPass number pass → view pass ≡ taking_hand (record { mail = mail_of pass; number = number; taken = (view pass).taken })
+  taker_knows number pass is = λ i. record {
+    crew = whole_crew (view pass).crew is.crew i;
+    posters = is.posters i;
+    takers = is.takers i;
+    posted = is.posted i;
+    taken = (view pass).taken;
+  }
+
+-- to take one token in, and then the others, is to take them all in
+pub with_posters-cons : (hand : Hand) (token : Posting) (rest : List Posting) → with_posters (both_hands hand (posting_hand token)) rest ≡ with_posters hand (token ∷ rest)
+with_posters-cons hand token rest = λ i. record {
+  crew = hand.crew;
+  posters = append_assoc hand.posters (token.number ∷ []) (map (λ poster. poster.number) rest) i;
+  takers = append-nil hand.takers i;
+  posted = append_assoc hand.posted token.posted (posted_by rest) i;
+  taken = append-nil hand.taken i;
+}
+
+pub with_takers-cons : (hand : Hand) (token : Taking) (rest : List Taking) → with_takers (both_hands hand (taking_hand token)) rest ≡ with_takers hand (token ∷ rest)
+with_takers-cons hand token rest = λ i. record {
+  crew = hand.crew;
+  posters = append-nil hand.posters i;
+  takers = append_assoc hand.takers (token.number ∷ []) (map (λ taker. taker.number) rest) i;
+  posted = append-nil hand.posted i;
+  taken = append_assoc hand.taken token.taken (taken_by rest) i;
+}
+
+-- with nothing more to take in
+pub with_posters-nil : (hand : Hand) → with_posters hand [] ≡ hand
+with_posters-nil hand = λ i. record { crew = hand.crew; posters = append-nil hand.posters i; takers = hand.takers; posted = append-nil hand.posted i; taken = hand.taken }
+
+-- the keeper's hand after it took the posters in and then the takers
+pub taken_in : {keeper first second third : Hand} (posters : List Posting) (takers : List Taking) → first ≡ keeper → second ≡ with_posters first posters → third ≡ with_takers second takers → third ≡ with_takers (with_posters keeper posters) takers
+taken_in posters takers one two three = three ∙ ap (λ hand. with_takers hand takers) (two ∙ ap (λ hand. with_posters hand posters) one)
+
+has_numbers : {T : Type 0} (number_of : T → ℕ) (n : ℕ) (tokens : List T) → HasEachNumber number_of n tokens → HasNumbers n (map number_of tokens)
+has_numbers number_of n tokens each x below =
+    let found = each x below in
+    let place = found.0 in
+    let token = found.1 in
+    (place, rw (length-map tokens number_of) found.2, get_or-map number_of tokens place token x found.2 ∙ ap number_of found.3 ∙ found.4)
+
+-- the keeper that has taken every token in has every number
+pub gathers_all : (crew : Crew) (posters : List Posting) (takers : List Taking) → HasEachNumber (λ poster. poster.number) crew.posters posters → HasEachNumber (λ taker. taker.number) crew.takers takers → 0 < crew.takers
+    → HasAllNumbers (with_takers (with_posters (idle_hand (Some crew)) posters) takers)
+gathers_all crew posters takers each_poster each_taker some_taker = record {
+  crew = crew;
+  knows = refl;
+  all_posters = has_numbers (λ poster. poster.number) crew.posters posters each_poster;
+  all_takers = has_numbers (λ taker. taker.number) crew.takers takers each_taker;
+  some_taker = some_taker;
+}
+
+-- a hand with every number may take
+pub may_take : (hand : Hand) → HasAllNumbers hand → hand.takers ≢ []
+may_take hand all none = let zeroth = all.all_takers 0 all.some_taker in absurd (omega (arith, zeroth.1, ap length none))
+
+module _ {M : Type 0} (spelling : M → List ℕ) where
+  -- a hand with every number knows what is left, also after it took more
+  pub settles_after : (place : ℕ) (hand next : Hand) → HasAllNumbers hand → next.crew ≡ hand.crew → next.posters ≡ hand.posters → next.takers ≡ hand.takers
+      → Learns (Stands spelling) place next (λ left. Balances next.posted next.taken (map spelling left))
+  settles_after place hand next all crew posters takers =
+      settles spelling place next all.crew (crew ∙ all.knows) (subst (HasNumbers all.crew.posters) (sym posters) all.all_posters) (subst (HasNumbers all.crew.takers) (sym takers) all.all_takers)
+
+  -- at an empty mail, what was taken last was left before
+  pub emptied : (hand next : Hand) (left : List M) → next ≡ record hand { taken = hand.taken ++ map spelling left } → Held 0 (λ (items : List M). Balances next.posted next.taken (map spelling items))
+      → Balances hand.posted hand.taken (map spelling left)
+  emptied hand next left is held message =
+      let balance = held.2 message in
+      let nothing = no_items held.0 held.1 message in
+      let posted = ap (λ h. times message h.posted) is in
+      let taken = ap (λ h. times message h.taken) is in
+      let parts = times-append message hand.taken (map spelling left) in
+      omega arith
+    where
+      no_items : (items : List M) → length items ≡ 0 → (message : List ℕ) → times message (map spelling items) ≡ 0
+      no_items [] none message = refl
+      no_items (x ∷ xs) none message = absurd (omega arith)

@@ -1,0 +1,4 @@
+pub mod Hands
+pub mod Tokens
+pub mod Insides
+pub mod Gathering
