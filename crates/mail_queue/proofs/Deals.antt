@@ -17,6 +17,7 @@ module _ {M : Type 0} where
   pub dealt_poster : (number : ℕ) (rest : List ℕ) (pass : Pass M Hand) (hand : Hand) → view pass ≡ next_poster hand → pass.me.1 ≡ [] → IsSome hand.crew → hand.posters ≡ number ∷ rest → IsPosterPass number pass
   dealt_poster number rest pass hand is no_slot crew has = record {
     no_slot = no_slot;
+    founds = ap (λ h. h.founds) is;
     crew = ap (λ h. is_some h.crew) is ∙ crew;
     posters = ap (λ h. h.posters) is ∙ ap (take 1) has;
     takers = ap (λ h. h.takers) is;
@@ -26,6 +27,7 @@ module _ {M : Type 0} where
   pub dealt_taker : (number : ℕ) (rest : List ℕ) (pass : Pass M Hand) (hand : Hand) → view pass ≡ next_taker hand → pass.me.1 ≡ [] → IsSome hand.crew → hand.takers ≡ number ∷ rest → IsTakerPass number pass
   dealt_taker number rest pass hand is no_slot crew has = record {
     no_slot = no_slot;
+    founds = ap (λ h. h.founds) is;
     crew = ap (λ h. is_some h.crew) is ∙ crew;
     posters = ap (λ h. h.posters) is;
     takers = ap (λ h. h.takers) is ∙ ap (take 1) has;

@@ -1,4 +1,4 @@
--- What a keeper that takes the tokens in knows.
+-- What a pass that has taken the tokens in knows.
 use Rattle.std.proofs.Common.{◌≡◌, ◌≢◌, ℕ, ◌+◌, ◌<◌, List, [], ◌∷◌, ◌++◌, map, length, Option, Some, None, sym, ap, ◌∙◌, refl, subst, arith}
 use Rattle.std.specs.Prelude.{IsSome, Any}
 use Rattle.std.specs.List.{Contains}
@@ -9,7 +9,7 @@ use Rattle.mail_queue.specs.declared.hand.Crew.{Crew}
 use Rattle.mail_queue.specs.declared.hand.Hand.{Hand}
 use Rattle.mail_queue.specs.Hands.{times, HasNumbers, Balances, posters_of, takers_of, idle_hand, both_hands, Stands}
 use Rattle.mail_queue.specs.Tokens.{MailId, Posting, Taking, crew_of, posting_hand, taking_hand}
-use Rattle.mail_queue.specs.Gathering.{HasEachNumber, HasAllNumbers, posted_by, taken_by, with_posters, with_takers}
+use Rattle.mail_queue.specs.Gathering.{HasEachNumber, IsComplete, HasAllNumbers, posted_by, taken_by, with_posters, with_takers}
 use Rattle.mail_queue.specs.Insides.{mail_of, IsPosterPass, IsTakerPass}
 use Rattle.mail_queue.proofs.Times.{times-append}
 use Rattle.mail_queue.proofs.Whole.{settles}
@@ -22,6 +22,7 @@ module _ {M : Type 0} where
   -- a token's pass knows what contracts see of the token
   pub poster_knows : (number : ℕ) (pass : Pass M Hand) → IsPosterPass number pass → view pass ≡ posting_hand (record { mail = mail_of pass; number = number; posted = (view pass).posted })
   poster_knows number pass is = λ i. record {
+    founds = is.founds i;
     crew = whole_crew (view pass).crew is.crew i;
     posters = is.posters i;
     takers = is.takers i;
@@ -31,6 +32,7 @@ module _ {M : Type 0} where
 
   pub taker_knows : (number : ℕ) (pass : Pass M Hand) → IsTakerPass number pass → view pass ≡ taking_hand (record { mail = mail_of pass; number = number; taken = (view pass).taken })
   taker_knows number pass is = λ i. record {
+    founds = is.founds i;
     crew = whole_crew (view pass).crew is.crew i;
     posters = is.posters i;
     takers = is.takers i;
@@ -41,6 +43,7 @@ module _ {M : Type 0} where
 -- to take one token in, and then the others, is to take them all in
 pub with_posters-cons : (hand : Hand) (token : Posting) (rest : List Posting) → with_posters (both_hands hand (posting_hand token)) rest ≡ with_posters hand (token ∷ rest)
 with_posters-cons hand token rest = λ i. record {
+  founds = hand.founds;
   crew = hand.crew;
   posters = append_assoc hand.posters (token.number ∷ []) (map (λ poster. poster.number) rest) i;
   takers = append-nil hand.takers i;
@@ -50,20 +53,13 @@ with_posters-cons hand token rest = λ i. record {
 
 pub with_takers-cons : (hand : Hand) (token : Taking) (rest : List Taking) → with_takers (both_hands hand (taking_hand token)) rest ≡ with_takers hand (token ∷ rest)
 with_takers-cons hand token rest = λ i. record {
+  founds = hand.founds;
   crew = hand.crew;
   posters = append-nil hand.posters i;
   takers = append_assoc hand.takers (token.number ∷ []) (map (λ taker. taker.number) rest) i;
   posted = append-nil hand.posted i;
   taken = append_assoc hand.taken token.taken (taken_by rest) i;
 }
-
--- with nothing more to take in
-pub with_posters-nil : (hand : Hand) → with_posters hand [] ≡ hand
-with_posters-nil hand = λ i. record { crew = hand.crew; posters = append-nil hand.posters i; takers = hand.takers; posted = append-nil hand.posted i; taken = hand.taken }
-
--- the keeper's hand after it took the posters in and then the takers
-pub taken_in : {keeper first second third : Hand} (posters : List Posting) (takers : List Taking) → first ≡ keeper → second ≡ with_posters first posters → third ≡ with_takers second takers → third ≡ with_takers (with_posters keeper posters) takers
-taken_in posters takers one two three = three ∙ ap (λ hand. with_takers hand takers) (two ∙ ap (λ hand. with_posters hand posters) one)
 
 has_numbers : {T : Type 0} (number_of : T → ℕ) (n : ℕ) (tokens : List T) → HasEachNumber number_of n tokens → HasNumbers n (map number_of tokens)
 has_numbers number_of n tokens each x below =
@@ -72,14 +68,13 @@ has_numbers number_of n tokens each x below =
     let token = found.1 in
     (place, rw (length-map tokens number_of) found.2, get_or-map number_of tokens place token x found.2 ∙ ap number_of found.3 ∙ found.4)
 
--- the keeper that has taken every token in has every number
-pub gathers_all : (crew : Crew) (posters : List Posting) (takers : List Taking) → HasEachNumber (λ poster. poster.number) crew.posters posters → HasEachNumber (λ taker. taker.number) crew.takers takers → 0 < crew.takers
-    → HasAllNumbers (with_takers (with_posters (idle_hand (Some crew)) posters) takers)
-gathers_all crew posters takers each_poster each_taker some_taker = record {
-  crew = crew;
+-- the hand that has taken every token in has every number
+pub gathers_all : (mail : MailId) (posters : List Posting) (takers : List Taking) → IsComplete mail posters takers → 0 < mail.takers → HasAllNumbers (with_takers (with_posters (idle_hand (Some (crew_of mail))) posters) takers)
+gathers_all mail posters takers all some_taker = record {
+  crew = crew_of mail;
   knows = refl;
-  all_posters = has_numbers (λ poster. poster.number) crew.posters posters each_poster;
-  all_takers = has_numbers (λ taker. taker.number) crew.takers takers each_taker;
+  all_posters = has_numbers (λ poster. poster.number) mail.posters posters all.all_posters;
+  all_takers = has_numbers (λ taker. taker.number) mail.takers takers all.all_takers;
   some_taker = some_taker;
 }
 

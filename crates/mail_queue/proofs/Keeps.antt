@@ -4,13 +4,14 @@ use Rattle.std.specs.List.{sum_by, range_with_len}
 use Rattle.std.proofs.lemmas.List.{map-append}
 use Rattle.std.proofs.lemmas.List.Sums.{sum_by_push}
 use Rattle.std.proofs.lemmas.Option.{none-some}
+use Rattle.std.proofs.lemmas.Bool.{false≢true}
 use mathlib.Core.Option.{some, some-injective, some-ne-none}
 use lib.ListN.{get_elem?}
 use Rattle.crossbeam_queue.specs.Fifo.{Pushes, Pops, Forks, Merges, Learns}
 use Rattle.crossbeam_queue.proofs.Lists.{at_set, at_snoc, set_else}
 use Rattle.mail_queue.specs.declared.hand.Crew.{Crew}
 use Rattle.mail_queue.specs.declared.hand.Hand.{Hand}
-use Rattle.mail_queue.specs.Hands.{times, times_number, posters_of, takers_of, idle_hand, founding_hand, without_poster, next_poster, without_taker, next_taker, both_hands, after_post, after_take, Fits, Stands, Moment}
+use Rattle.mail_queue.specs.Hands.{times, times_number, posters_of, takers_of, first_hand, idle_hand, founding_hand, without_poster, next_poster, without_taker, next_taker, both_hands, after_post, after_take, Fits, Stands, Moment}
 use Rattle.mail_queue.proofs.Sums.{sum_by-set}
 use Rattle.mail_queue.proofs.Times.{times-append, times-cons, times_number-append, times_number-cut}
 
@@ -103,7 +104,7 @@ module _ {M : Type 0} (spelling : M → List ℕ) where
   pub moments : (place : ℕ) (hand : Hand) → Learns (Stands spelling) place hand (Moment spelling hand)
   moments place hand items hands s at = record { hands = hands; place = place; is_there = at; stands = s }
 
-  pub starts : Stands spelling [] (idle_hand None ∷ [])
+  pub starts : Stands spelling [] (first_hand ∷ [])
   starts = record {
     crew = None;
     fits = λ place hand e. first place hand e;
@@ -112,21 +113,21 @@ module _ {M : Type 0} (spelling : M → List ℕ) where
     balance = λ message. refl;
   }
     where
-      first : (place : ℕ) (hand : Hand) → get_elem? (idle_hand None ∷ []) place ≡ some hand → Fits None place hand
-      first zero hand e = subst (Fits None 0) (some-injective _ _ e) record { founder = λ _. refl; crew_is = λ known is. is; no_poster = λ _. refl; no_taker = λ _. refl }
+      first : (place : ℕ) (hand : Hand) → get_elem? (first_hand ∷ []) place ≡ some hand → Fits None place hand
+      first zero hand e = subst (Fits None 0) (some-injective _ _ e) record { founder = λ _. (refl, refl); crew_is = λ known is. is; no_poster = λ _. refl; no_taker = λ _. refl }
       first (suc place) hand e = absurd (some-ne-none hand (sym e))
 
   -- the first hand founds the mail
-  pub founds : (place : ℕ) (hand : Hand) (crew : Crew) → place ≡ 0 → hand ≡ idle_hand None → Forks (Stands spelling) place hand (founding_hand crew) (idle_hand (Some crew))
+  pub founds : (place : ℕ) (hand : Hand) (crew : Crew) → place ≡ 0 → hand ≡ first_hand → Forks (Stands spelling) place hand (founding_hand crew) (idle_hand (Some crew))
   founds place hand crew zeroth is items hands s at =
       let left = founding_hand crew in
       let right = idle_hand (Some crew) in
-      let unfounded : s.crew ≡ None = sym ((s.fits place hand at).founder zeroth) ∙ ap (λ h. h.crew) is in
+      let unfounded : s.crew ≡ None = ((s.fits place hand at).founder (ap (λ h. h.founds) is)).1 in
       let others : (j : ℕ) (other : Hand) → j ≢ place → get_elem? hands j ≡ some other → Fits (Some crew) j other =
       λ j other apart is_there.
       let f = s.fits j other is_there in
       record {
-        founder = λ first. absurd (apart (first ∙ sym zeroth));
+        founder = λ may. absurd (apart ((f.founder may).0 ∙ sym zeroth));
         crew_is = λ known knows. absurd (none-some known (sym unfounded ∙ f.crew_is known knows));
         no_poster = f.no_poster;
         no_taker = f.no_taker;
@@ -134,8 +135,8 @@ module _ {M : Type 0} (spelling : M → List ℕ) where
       record {
         crew = Some crew;
         fits = fits_more (Some crew) (set hands place left) right
-            (fits_set (Some crew) hands place left others record { founder = λ _. refl; crew_is = λ known knows. knows; no_poster = λ _. refl; no_taker = λ _. refl })
-            (λ j. record { founder = λ _. refl; crew_is = λ known knows. knows; no_poster = λ _. refl; no_taker = λ _. refl });
+            (fits_set (Some crew) hands place left others record { founder = λ may. absurd (false≢true may); crew_is = λ known knows. knows; no_poster = λ _. refl; no_taker = λ _. refl })
+            (λ j. record { founder = λ may. absurd (false≢true may); crew_is = λ known knows. knows; no_poster = λ _. refl; no_taker = λ _. refl });
         posters = λ x.
             let cut = cut_sum (λ h. times_number x h.posters) hands place hand left right at in
             let before = s.posters x ∙ ap (λ c. times_number x (range_with_len 0 (posters_of c))) unfounded in
@@ -156,17 +157,16 @@ module _ {M : Type 0} (spelling : M → List ℕ) where
       }
 
   -- the keeper gives a poster's number away
-  pub deals_poster : (place : ℕ) (hand : Hand) (crew : Crew) → hand.crew ≡ Some crew → hand.posted ≡ [] → Forks (Stands spelling) place hand (without_poster hand) (next_poster hand)
-  deals_poster place hand crew knows none items hands s at =
+  pub deals_poster : (place : ℕ) (hand : Hand) → hand.posted ≡ [] → Forks (Stands spelling) place hand (without_poster hand) (next_poster hand)
+  deals_poster place hand none items hands s at =
       let left = without_poster hand in
       let right = next_poster hand in
       let f = s.fits place hand at in
-      let same = knows ∙ sym (f.crew_is crew knows) in
       record {
         crew = s.crew;
         fits = fits_more s.crew (set hands place left) right
             (fits_set s.crew hands place left (λ j other _. s.fits j other) record { founder = f.founder; crew_is = f.crew_is; no_poster = λ _. none; no_taker = f.no_taker })
-            (λ j. record { founder = λ _. same; crew_is = f.crew_is; no_poster = λ _. refl; no_taker = λ _. refl });
+            (λ j. record { founder = λ may. absurd (false≢true may); crew_is = f.crew_is; no_poster = λ _. refl; no_taker = λ _. refl });
         posters = λ x.
             let cut = cut_sum (λ h. times_number x h.posters) hands place hand left right at in
             omega (arith, s.posters x, times_number-cut x hand.posters);
@@ -181,17 +181,16 @@ module _ {M : Type 0} (spelling : M → List ℕ) where
       }
 
   -- the keeper gives a taker's number away
-  pub deals_taker : (place : ℕ) (hand : Hand) (crew : Crew) → hand.crew ≡ Some crew → hand.taken ≡ [] → Forks (Stands spelling) place hand (without_taker hand) (next_taker hand)
-  deals_taker place hand crew knows none items hands s at =
+  pub deals_taker : (place : ℕ) (hand : Hand) → hand.taken ≡ [] → Forks (Stands spelling) place hand (without_taker hand) (next_taker hand)
+  deals_taker place hand none items hands s at =
       let left = without_taker hand in
       let right = next_taker hand in
       let f = s.fits place hand at in
-      let same = knows ∙ sym (f.crew_is crew knows) in
       record {
         crew = s.crew;
         fits = fits_more s.crew (set hands place left) right
             (fits_set s.crew hands place left (λ j other _. s.fits j other) record { founder = f.founder; crew_is = f.crew_is; no_poster = f.no_poster; no_taker = λ _. none })
-            (λ j. record { founder = λ _. same; crew_is = f.crew_is; no_poster = λ _. refl; no_taker = λ _. refl });
+            (λ j. record { founder = λ may. absurd (false≢true may); crew_is = f.crew_is; no_poster = λ _. refl; no_taker = λ _. refl });
         posters = λ x.
             let cut = cut_sum (λ h. times_number x h.posters) hands place hand left right at in
             omega (arith, s.posters x);
@@ -206,9 +205,9 @@ module _ {M : Type 0} (spelling : M → List ℕ) where
       }
 
   -- the keeper takes another hand in
-  pub gathers : (place : ℕ) (hand : Hand) (other : ℕ) (with_it : Hand) → place ≡ 0
+  pub gathers : (place : ℕ) (hand : Hand) (other : ℕ) (with_it : Hand)
       → Merges (Stands spelling) place hand other with_it (both_hands hand with_it) (idle_hand None)
-  gathers place hand other with_it zeroth items hands s at apart at' =
+  gathers place hand other with_it items hands s at apart at' =
       let both = both_hands hand with_it in
       let spent = idle_hand None in
       let f = s.fits place hand at in
@@ -223,7 +222,7 @@ module _ {M : Type 0} (spelling : M → List ℕ) where
               no_poster = λ none. both_none _ _ (f.no_poster (left_none _ _ none)) (w.no_poster (right_none _ _ none));
               no_taker = λ none. both_none _ _ (f.no_taker (left_none _ _ none)) (w.no_taker (right_none _ _ none));
             } j one)
-            record { founder = λ first. absurd (apart (first ∙ sym zeroth)); crew_is = λ known knows. absurd (none-some known knows); no_poster = λ _. refl; no_taker = λ _. refl };
+            record { founder = λ may. absurd (false≢true may); crew_is = λ known knows. absurd (none-some known knows); no_poster = λ _. refl; no_taker = λ _. refl };
         posters = λ x.
             let joined = joined_sum (λ h. times_number x h.posters) hands place other hand both with_it spent at at' in
             omega (arith, s.posters x, times_number-append x hand.posters with_it.posters);

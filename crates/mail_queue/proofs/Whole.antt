@@ -34,7 +34,7 @@ no_number_else numbers hands n once place hand at has j other apart is_there = n
         let most = times_number-range-le x n in
         absurd (omega arith)
 
-pub crew_known : (crew : Option Crew) → IsSome crew → (known : Crew) × (crew ≡ Some known)
+crew_known : (crew : Option Crew) → IsSome crew → (known : Crew) × (crew ≡ Some known)
 crew_known (Some known) some_known = (known, refl)
 crew_known None some_known = cc
 

@@ -1,5 +1,5 @@
 -- What the tokens of a mail know of what was posted and taken, and how that is tied to what lies in the mail.
-use Rattle.std.specs.Prelude.{◌≡◌, ℕ, zero, suc, ◌+◌, ◌<◌, Contains, List, [], ◌∷◌, ◌++◌, map, drop, take, count_by, sum_by, Option, Some, None, if◌then◌else◌, nat_lt, ◌==◌}
+use Rattle.std.specs.Prelude.{◌≡◌, ℕ, zero, suc, ◌+◌, ◌<◌, Contains, List, [], ◌∷◌, ◌++◌, map, drop, take, count_by, sum_by, Option, Some, None, true, false, if◌then◌else◌, nat_lt, ◌==◌}
 use Rattle.std.specs.List.{range_with_len}
 use Rattle.std.specs.Str.{bytes_eq}
 use mathlib.Core.Option.{some}
@@ -32,31 +32,36 @@ abbrev pub takers_of : Option Crew → ℕ
 takers_of (Some crew) = crew.takers
 takers_of None = 0
 
--- a hand that has no number yet
+-- the hand that is to found a mail
+abbrev pub first_hand : Hand
+first_hand = record { founds = true; crew = None; posters = []; takers = []; posted = []; taken = [] }
+
+-- a hand that has no number
 abbrev pub idle_hand : Option Crew → Hand
-idle_hand crew = record { crew = crew; posters = []; takers = []; posted = []; taken = [] }
+idle_hand crew = record { founds = false; crew = crew; posters = []; takers = []; posted = []; taken = [] }
 
 -- the hand that has founded a mail, and has every number
 abbrev pub founding_hand : Crew → Hand
-founding_hand crew = record { crew = Some crew; posters = range_with_len 0 crew.posters; takers = range_with_len 0 crew.takers; posted = []; taken = [] }
+founding_hand crew = record { founds = false; crew = Some crew; posters = range_with_len 0 crew.posters; takers = range_with_len 0 crew.takers; posted = []; taken = [] }
 
 -- the hand after it gave its first poster's number away, and the hand that got it
 abbrev pub without_poster : Hand → Hand
 without_poster hand = record hand { posters = drop 1 hand.posters }
 
 abbrev pub next_poster : Hand → Hand
-next_poster hand = record { crew = hand.crew; posters = take 1 hand.posters; takers = []; posted = []; taken = [] }
+next_poster hand = record { founds = false; crew = hand.crew; posters = take 1 hand.posters; takers = []; posted = []; taken = [] }
 
 -- the same with its first taker's number
 abbrev pub without_taker : Hand → Hand
 without_taker hand = record hand { takers = drop 1 hand.takers }
 
 abbrev pub next_taker : Hand → Hand
-next_taker hand = record { crew = hand.crew; posters = []; takers = take 1 hand.takers; posted = []; taken = [] }
+next_taker hand = record { founds = false; crew = hand.crew; posters = []; takers = take 1 hand.takers; posted = []; taken = [] }
 
 -- the hand that has taken another in
 abbrev pub both_hands : Hand → Hand → Hand
 both_hands hand other = record {
+  founds = hand.founds;
   crew = hand.crew;
   posters = hand.posters ++ other.posters;
   takers = hand.takers ++ other.takers;
@@ -72,9 +77,9 @@ after_post hand message = record hand { posted = hand.posted ++ message ∷ [] }
 abbrev pub after_take : Hand → List ℕ → Hand
 after_take hand message = record hand { taken = hand.taken ++ message ∷ [] }
 
--- a hand knows the crew or nothing of it, and posts and takes only where it has a number for that; the first hand founds the mail
+-- the first hand alone founds the mail, once; a hand knows the crew or nothing of it; and it posts and takes only where it has a number for that
 pub record Fits (crew : Option Crew) (place : ℕ) (hand : Hand) : Type 0 where
-  pub founder : place ≡ 0 → hand.crew ≡ crew
+  pub founder : hand.founds ≡ true → (place ≡ 0) × (crew ≡ None)
   pub crew_is : (known : Crew) → hand.crew ≡ Some known → crew ≡ Some known
   pub no_poster : hand.posters ≡ [] → hand.posted ≡ []
   pub no_taker : hand.takers ≡ [] → hand.taken ≡ []

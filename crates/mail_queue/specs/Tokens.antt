@@ -1,5 +1,5 @@
 -- What contracts see of a mail and of its tokens.
-use Rattle.std.specs.Prelude.{ℕ, List, [], ◌∷◌, ◌++◌, Some}
+use Rattle.std.specs.Prelude.{ℕ, List, [], ◌∷◌, ◌++◌, Some, false}
 use Rattle.atomic_table.specs.Seated.{TableId}
 use Rattle.mail_queue.specs.declared.hand.Crew.{Crew}
 use Rattle.mail_queue.specs.declared.hand.Hand.{Hand}
@@ -27,11 +27,11 @@ crew_of mail = record { posters = mail.posters; takers = mail.takers }
 
 -- what a poster's token knows
 abbrev pub posting_hand : Posting → Hand
-posting_hand token = record { crew = Some (crew_of token.mail); posters = token.number ∷ []; takers = []; posted = token.posted; taken = [] }
+posting_hand token = record { founds = false; crew = Some (crew_of token.mail); posters = token.number ∷ []; takers = []; posted = token.posted; taken = [] }
 
 -- what a taker's token knows
 abbrev pub taking_hand : Taking → Hand
-taking_hand token = record { crew = Some (crew_of token.mail); posters = []; takers = token.number ∷ []; posted = []; taken = token.taken }
+taking_hand token = record { founds = false; crew = Some (crew_of token.mail); posters = []; takers = token.number ∷ []; posted = []; taken = token.taken }
 
 -- the tokens as they are made
 abbrev pub new_posting : MailId → ℕ → Posting

@@ -14,7 +14,9 @@ pub struct Crew {
 
 /// What a token knows. No value of it is made.
 pub struct Hand {
-    /// `None` before the mail is founded.
+    /// Whether it is to found the mail.
+    pub founds: bool,
+    /// `None` before the mail is founded, and once another has taken it in.
     pub crew: Option<Crew>,
     /// The numbers of the posters and of the takers that it stands for.
     pub posters: LinkedList<u32>,
@@ -27,12 +29,11 @@ pub struct Hand {
 pub struct Fair;
 
 impl<M: Letter> Protocol<M, Hand> for Fair {
-    ghost use Rattle.std.specs.Prelude.{None};
-    ghost use Rattle.mail_queue.specs.Hands.{Stands, idle_hand};
+    ghost use Rattle.mail_queue.specs.Hands.{Stands, first_hand};
 
     ghost holds = { Stands M.spelling };
 
-    ghost first = { idle_hand None };
+    ghost first = { first_hand };
 }
 
 pub struct Posts;

@@ -1,14 +1,15 @@
 //! What the tokens of a mail tell once they are gathered.
-ghost use Rattle.std.specs.Prelude.{◌≡◌, ◌↔◌, ◌<◌, IsTrue, All, Any, [], map, Some, Err, IfOk, OnOk, ℕ};
-ghost use Rattle.mail_queue.specs.Hands.{Balances};
-ghost use Rattle.crossbeam_queue.specs.Passes.{IsPassOf, IsSamePass, view};
-ghost use Rattle.mail_queue.specs.Insides.{mail_of};
+ghost use Rattle.std.specs.Prelude.{◌≡◌, ◌↔◌, ◌<◌, IsTrue, All, Any, [], map, Some, Err, IfOk, OnOk, ℕ, length};
+ghost use Rattle.mail_queue.specs.Hands.{Balances, idle_hand};
+ghost use Rattle.crossbeam_queue.specs.Passes.{view};
+ghost use Rattle.mail_queue.specs.Tokens.{crew_of};
+ghost use Rattle.mail_queue.specs.Insides.{IsIdlePassOf};
 ghost use Rattle.mail_queue.specs.Gathering.{HasAllNumbers, with_posters, with_takers, IsComplete, HasEachNumber, posted_by, taken_by};
 
 use crate::fault::{GatherFault, NoMemory};
 use crate::hand::{Gathered, Gathers, Hand, Takes};
 use crate::letter::Letter;
-use crate::mail::{CAPACITY, Mail, Poster, Queue, Taker};
+use crate::mail::{CAPACITY, Mail, Poster, Taker};
 use crossbeam_queue::Pass;
 use std::alloc::Global;
 
@@ -30,15 +31,9 @@ pub fn gathered<M: Letter + Drop>(
     if !has_each_number(&posters, mail.posters) || !has_each_number(&takers, mail.takers) {
         return Err(GatherFault::Incomplete);
     }
-    let Mail {
-        queue,
-        mut keeper,
-        posters: _,
-        takers: _,
-    } = mail;
-    gather_posters(&queue, &mut keeper, posters);
-    gather_takers(&queue, &mut keeper, takers);
-    Ok(left_in(alloc, &queue, &mut keeper)?)
+    let mut whole = gather_posters(&mail, posters);
+    gather_takers(&mail, &mut whole, takers);
+    Ok(left_in(alloc, &mail, &mut whole)?)
 }
 
 /// A token with a number.
@@ -82,54 +77,56 @@ fn has_number<T: Numbered>(tokens: &Vec<T>, number: u32) -> bool
     tokens.iter().any(|token| token.number() == number)
 }
 
-fn gather_posters<M: Letter + Drop>(
-    queue: &Queue<M>,
-    keeper: &mut Pass<M, Hand>,
-    posters: Vec<Poster<M>>,
-)
-    requires pass { IsPassOf queue.now keeper.old × (keeper.old.id ≡ 0) }
-    requires mail { All (λ poster. poster.mail ≡ mail_of keeper.old) posters.items }
-    ensures pass { IsSamePass keeper.old keeper.new }
-    ensures gathered { view keeper.new ≡ with_posters (view keeper.old) posters.items }
+// One pass that stands for all these posters.
+fn gather_posters<M: Letter + Drop>(mail: &Mail<M>, posters: Vec<Poster<M>>) -> Pass<M, Hand>
+    requires some_poster { 0 < length posters.items }
+    requires mail { All (λ poster. poster.mail ≡ mail.now) posters.items }
+    ensures pass { IsIdlePassOf mail.now result }
+    ensures gathered { view result ≡ with_posters (idle_hand (Some (crew_of mail.now))) posters.items }
 {
-    for poster in posters {
-        let Poster { number: _, pass } = poster;
-        queue.absorb::<Gathers>(keeper, pass);
+    let mut rest = posters.into_iter();
+    let Poster {
+        number: _,
+        mut pass,
+    } = rest.next().unwrap();
+    for poster in rest {
+        let Poster {
+            number: _,
+            pass: other,
+        } = poster;
+        mail.queue.absorb::<Gathers>(&mut pass, other);
     }
+    pass
 }
 
-fn gather_takers<M: Letter + Drop>(
-    queue: &Queue<M>,
-    keeper: &mut Pass<M, Hand>,
-    takers: Vec<Taker<M>>,
-)
-    requires pass { IsPassOf queue.now keeper.old × (keeper.old.id ≡ 0) }
-    requires mail { All (λ taker. taker.mail ≡ mail_of keeper.old) takers.items }
-    ensures pass { IsSamePass keeper.old keeper.new }
-    ensures gathered { view keeper.new ≡ with_takers (view keeper.old) takers.items }
+fn gather_takers<M: Letter + Drop>(mail: &Mail<M>, whole: &mut Pass<M, Hand>, takers: Vec<Taker<M>>)
+    requires pass { IsIdlePassOf mail.now whole.old }
+    requires mail { All (λ taker. taker.mail ≡ mail.now) takers.items }
+    ensures pass { IsIdlePassOf mail.now whole.new }
+    ensures gathered { view whole.new ≡ with_takers (view whole.old) takers.items }
 {
     for taker in takers {
         let Taker { number: _, pass } = taker;
-        queue.absorb::<Gathers>(keeper, pass);
+        mail.queue.absorb::<Gathers>(whole, pass);
     }
 }
 
 // No thread is at work in the mail by now, so the first attempt that takes nothing finds it empty, and the rounds never run out.
 fn left_in<M: Letter + Drop>(
     alloc: Global,
-    queue: &Queue<M>,
-    keeper: &mut Pass<M, Hand>,
+    mail: &Mail<M>,
+    whole: &mut Pass<M, Hand>,
 ) -> Result<Vec<M>, NoMemory>
-    requires pass { IsPassOf queue.now keeper.old }
-    requires whole { HasAllNumbers (view keeper.old) }
-    ensures { IfOk result (λ left. Balances (view keeper.old).posted (view keeper.old).taken (map M.spelling left.items)) }
+    requires pass { IsIdlePassOf mail.now whole.old }
+    requires whole { HasAllNumbers (view whole.old) }
+    ensures { IfOk result (λ left. Balances (view whole.old).posted (view whole.old).taken (map M.spelling left.items)) }
 {
     let mut left = Vec::with_capacity(alloc, CAPACITY)?;
     for _ in 0..u64::MAX {
-        match queue.try_pop_as::<Takes>(keeper) {
+        match mail.queue.try_pop_as::<Takes>(whole) {
             Some(message) => left.push(message)?,
             None => {
-                if queue.is_empty_as::<Gathered>(keeper) {
+                if mail.queue.is_empty_as::<Gathered>(whole) {
                     return Ok(left);
                 }
             }

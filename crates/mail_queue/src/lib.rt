@@ -11,3 +11,6 @@ mod make;
 pub use fault::{GatherFault, NoMemory};
 pub use letter::Letter;
 pub use mail::{CAPACITY, Mail, Poster, Taker};
+
+#[cfg(test)]
+mod tests;

@@ -17,20 +17,20 @@ pub(crate) type Queue<M> = RuledArrayQueue<M, Hand, Fair, Global>;
 #[derive(Drop)]
 pub struct Mail<M: Letter> {
     pub(crate) queue: Queue<M>,
-    pub(crate) keeper: Pass<M, Hand>,
     pub(crate) posters: u32,
     pub(crate) takers: u32,
 }
 
 impl<M: Letter> Model for Mail<M> {
+    ghost use Rattle.std.specs.Prelude.{◌≡◌, ◌<◌};
+    ghost use Rattle.crossbeam_queue.specs.Passes.{ruled_capacity};
     ghost use Rattle.mail_queue.specs.Tokens.{MailId};
-    ghost use Rattle.mail_queue.specs.Insides.{IsKept};
 
     ghost Value = { MailId };
 
-    ghost view = { λ mail. record { place = mail.keeper.table_id; posters = mail.posters; takers = mail.takers } };
+    ghost view = { λ mail. record { place = mail.queue.table.shared.table_id; posters = mail.posters; takers = mail.takers } };
 
-    ghost invariant = { λ mail. IsKept mail.queue mail.keeper mail.posters mail.takers };
+    ghost invariant = { λ mail. (ruled_capacity mail.queue ≡ 64) × (0 < mail.posters) × (0 < mail.takers) };
 }
 
 /// The right to post. Contracts see its mail, its number and the bytes of what it posted.

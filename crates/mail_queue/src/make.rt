@@ -2,7 +2,7 @@
 ghost use Rattle.std.specs.Prelude.{◌≡◌, ◌<◌, [], map, Some, None, IfOk};
 ghost use Rattle.std.specs.List.{range_with_len};
 ghost use Rattle.crossbeam_queue.specs.Passes.{IsPassOf, IsSamePass, view};
-ghost use Rattle.mail_queue.specs.Hands.{founding_hand, idle_hand};
+ghost use Rattle.mail_queue.specs.Hands.{founding_hand, first_hand};
 ghost use Rattle.mail_queue.specs.Tokens.{new_posting, new_taking};
 ghost use Rattle.mail_queue.specs.Insides.{mail_of, IsPosterPass, IsTakerPass, CanDeal};
 
@@ -33,7 +33,6 @@ impl<M: Letter + Drop> Mail<M> {
         let taking = dealt_takers(alloc, &queue, &mut keeper, takers)?;
         let mail = Mail {
             queue,
-            keeper,
             posters,
             takers,
         };
@@ -49,7 +48,7 @@ fn found<M: Letter, F: Founding>(
     takers: u32,
 )
     requires counts { (posters ≡ F.posters) × (takers ≡ F.takers) }
-    requires first { IsPassOf queue.now keeper.old × (keeper.old.id ≡ 0) × (view keeper.old ≡ idle_hand None) }
+    requires first { IsPassOf queue.now keeper.old × (keeper.old.id ≡ 0) × (view keeper.old ≡ first_hand) }
     ensures pass { IsSamePass keeper.old keeper.new }
     ensures founded { view keeper.new ≡ founding_hand (record { posters = posters; takers = takers }) }
 {

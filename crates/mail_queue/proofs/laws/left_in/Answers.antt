@@ -11,7 +11,7 @@ try_pop_as-requires-clause-rule g c =
 pub is_empty_as-requires-clause-rule : goal.is_empty_as-requires-clause-rule
 is_empty_as-requires-clause-rule g c =
     let is = c.in-None.ensures.rule ∙ c.loop.invariant.1 in
-    settles_after g.M.Letter.spelling _ (view c.args.keeper.now) (view c.try_pop_as.new.pass) c.requires.whole (ap (λ hand. hand.crew) is) (ap (λ hand. hand.posters) is) (ap (λ hand. hand.takers) is)
+    settles_after g.M.Letter.spelling _ (view c.args.whole.now) (view c.try_pop_as.new.pass) c.requires.whole (ap (λ hand. hand.crew) is) (ap (λ hand. hand.posters) is) (ap (λ hand. hand.takers) is)
 
 pub returns-then-is_empty_as : goal.returns-then-is_empty_as
-returns-then-is_empty_as g c = emptied g.M.Letter.spelling (view c.args.keeper.now) (view c.try_pop_as.new.pass) c.loop.left.items (c.in-None.ensures.rule ∙ c.loop.invariant.1) (c.is_empty_as.ensures.rule c.if-is_empty_as.true)
+returns-then-is_empty_as g c = emptied g.M.Letter.spelling (view c.args.whole.now) (view c.try_pop_as.new.pass) c.loop.left.items (c.in-None.ensures.rule ∙ c.loop.invariant.1) (c.is_empty_as.ensures.rule c.if-is_empty_as.true)

@@ -8,14 +8,12 @@ use Rattle.mail_queue.specs.Tokens.{new_posting}
 use Rattle.mail_queue.specs.Insides.{mail_of}
 use Rattle.mail_queue.proofs.Deals.{range_with_len-next, dealt_poster, same_mail}
 use Rattle.mail_queue.proofs.Keeps.{deals_poster}
-use Rattle.mail_queue.proofs.Whole.{crew_known}
 use Rattle.mail_queue.proofs.make.dealt_posters.Goals as goal
 
 pub another-pass-requires-clause-rule : goal.another-pass-requires-clause-rule
 another-pass-requires-clause-rule g c =
     let at = c.loop-number.invariant in
-    let known = crew_known _ c.requires.all.0.crew in
-    deals_poster g.M.Letter.spelling _ _ known.0 (ap (λ h. h.crew) at.1 ∙ known.1) (ap (λ h. h.posted) at.1 ∙ c.requires.all.0.posted)
+    deals_poster g.M.Letter.spelling _ _ (ap (λ h. h.posted) at.1 ∙ c.requires.all.0.posted)
 
 pub poster_of-requires-clause-poster : goal.poster_of-requires-clause-poster
 poster_of-requires-clause-poster g c =

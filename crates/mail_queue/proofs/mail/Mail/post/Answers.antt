@@ -14,4 +14,4 @@ returns-clause-only_poster g c =
     MatchResult-weaker c.push_as.result c.push_as.ensures.rule (λ _ _. tt) (λ back told one.
     let bound = only_poster g.M.Letter.spelling token.number _ token.pass c.poster.invariant (crew ∙ one) told.2 in
     let posted = ap (λ poster. length poster.posted) c.poster.view_is in
-    omega (arith, c.self.invariant.capacity))
+    omega (arith, c.self.invariant.0))
