@@ -1,12 +1,11 @@
 -- The passes that a keeper deals out.
-use Rattle.std.proofs.Common.{◌≡◌, ℕ, suc, ◌+◌, ◌-◌, ◌<◌, List, [], ◌∷◌, ◌++◌, map, take, drop, Option, sym, ap, ◌∙◌, refl, arith}
+use Rattle.std.proofs.Common.{◌≡◌, ℕ, suc, ◌+◌, ◌-◌, ◌<◌, List, [], ◌∷◌, take, ap, ◌∙◌, arith}
 use Rattle.std.specs.Prelude.{IsSome, is_some}
 use Rattle.std.specs.List.{range_with_len}
 use Rattle.crossbeam_queue.specs.Passes.{Pass, view}
-use Rattle.mail_queue.specs.declared.hand.Crew.{Crew}
 use Rattle.mail_queue.specs.declared.hand.Hand.{Hand}
-use Rattle.mail_queue.specs.Hands.{next_poster, next_taker, posters_of, takers_of}
-use Rattle.mail_queue.specs.Tokens.{MailId}
+use Rattle.mail_queue.specs.Hands.{next_poster, next_taker}
+use Rattle.mail_queue.specs.Rule.{posters_of, takers_of}
 use Rattle.mail_queue.specs.Insides.{mail_of, IsPosterPass, IsTakerPass}
 
 -- the numbers from k up to count, cut after the first

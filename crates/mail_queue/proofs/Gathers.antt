@@ -1,15 +1,17 @@
 -- What a pass that has taken the tokens in knows.
-use Rattle.std.proofs.Common.{◌≡◌, ◌≢◌, ℕ, ◌+◌, ◌<◌, List, [], ◌∷◌, ◌++◌, map, length, Option, Some, None, sym, ap, ◌∙◌, refl, subst, arith}
-use Rattle.std.specs.Prelude.{IsSome, Any}
-use Rattle.std.specs.List.{Contains}
+use Rattle.std.proofs.Common.{◌≡◌, ◌≢◌, ℕ, ◌<◌, List, [], ◌∷◌, ◌++◌, map, length, Option, Some, None, sym, ap, ◌∙◌, refl, subst, arith}
+use Rattle.std.specs.Prelude.{IsSome}
 use Rattle.std.proofs.lemmas.List.{append-nil, append_assoc, length-map, get_or-map}
 use Rattle.crossbeam_queue.specs.Fifo.{Learns, Held}
 use Rattle.crossbeam_queue.specs.Passes.{Pass, view}
 use Rattle.mail_queue.specs.declared.hand.Crew.{Crew}
 use Rattle.mail_queue.specs.declared.hand.Hand.{Hand}
-use Rattle.mail_queue.specs.Hands.{times, HasNumbers, Balances, posters_of, takers_of, idle_hand, both_hands, Stands}
-use Rattle.mail_queue.specs.Tokens.{MailId, Posting, Taking, crew_of, posting_hand, taking_hand}
-use Rattle.mail_queue.specs.Gathering.{HasEachNumber, IsComplete, HasAllNumbers, posted_by, taken_by, with_posters, with_takers}
+use Rattle.mail_queue.specs.Messages.{times, HasNumbers, Balances}
+use Rattle.mail_queue.specs.Rule.{posters_of, takers_of, Stands}
+use Rattle.mail_queue.specs.Hands.{idle_hand, both_hands}
+use Rattle.mail_queue.specs.Tokens.{MailId, PosterToken, TakerToken, crew_of, poster_hand, taker_hand}
+use Rattle.mail_queue.specs.Gathering.{IsComplete, posted_by, taken_by}
+use Rattle.mail_queue.specs.Insides.{HasAllNumbers, with_posters, with_takers}
 use Rattle.mail_queue.specs.Insides.{mail_of, IsPosterPass, IsTakerPass}
 use Rattle.mail_queue.proofs.Times.{times-append}
 use Rattle.mail_queue.proofs.Whole.{settles}
@@ -20,7 +22,7 @@ whole_crew None known = cc
 
 module _ {M : Type 0} where
   -- a token's pass knows what contracts see of the token
-  pub poster_knows : (number : ℕ) (pass : Pass M Hand) → IsPosterPass number pass → view pass ≡ posting_hand (record { mail = mail_of pass; number = number; posted = (view pass).posted })
+  pub poster_knows : (number : ℕ) (pass : Pass M Hand) → IsPosterPass number pass → view pass ≡ poster_hand (record { mail = mail_of pass; number = number; posted = (view pass).posted })
   poster_knows number pass is = λ i. record {
     founds = is.founds i;
     crew = whole_crew (view pass).crew is.crew i;
@@ -30,7 +32,7 @@ module _ {M : Type 0} where
     taken = is.taken i;
   }
 
-  pub taker_knows : (number : ℕ) (pass : Pass M Hand) → IsTakerPass number pass → view pass ≡ taking_hand (record { mail = mail_of pass; number = number; taken = (view pass).taken })
+  pub taker_knows : (number : ℕ) (pass : Pass M Hand) → IsTakerPass number pass → view pass ≡ taker_hand (record { mail = mail_of pass; number = number; taken = (view pass).taken })
   taker_knows number pass is = λ i. record {
     founds = is.founds i;
     crew = whole_crew (view pass).crew is.crew i;
@@ -41,7 +43,7 @@ module _ {M : Type 0} where
   }
 
 -- to take one token in, and then the others, is to take them all in
-pub with_posters-cons : (hand : Hand) (token : Posting) (rest : List Posting) → with_posters (both_hands hand (posting_hand token)) rest ≡ with_posters hand (token ∷ rest)
+pub with_posters-cons : (hand : Hand) (token : PosterToken) (rest : List PosterToken) → with_posters (both_hands hand (poster_hand token)) rest ≡ with_posters hand (token ∷ rest)
 with_posters-cons hand token rest = λ i. record {
   founds = hand.founds;
   crew = hand.crew;
@@ -51,7 +53,7 @@ with_posters-cons hand token rest = λ i. record {
   taken = append-nil hand.taken i;
 }
 
-pub with_takers-cons : (hand : Hand) (token : Taking) (rest : List Taking) → with_takers (both_hands hand (taking_hand token)) rest ≡ with_takers hand (token ∷ rest)
+pub with_takers-cons : (hand : Hand) (token : TakerToken) (rest : List TakerToken) → with_takers (both_hands hand (taker_hand token)) rest ≡ with_takers hand (token ∷ rest)
 with_takers-cons hand token rest = λ i. record {
   founds = hand.founds;
   crew = hand.crew;
@@ -61,15 +63,15 @@ with_takers-cons hand token rest = λ i. record {
   taken = append_assoc hand.taken token.taken (taken_by rest) i;
 }
 
-has_numbers : {T : Type 0} (number_of : T → ℕ) (n : ℕ) (tokens : List T) → HasEachNumber number_of n tokens → HasNumbers n (map number_of tokens)
-has_numbers number_of n tokens each x below =
-    let found = each x below in
-    let place = found.0 in
-    let token = found.1 in
-    (place, rw (length-map tokens number_of) found.2, get_or-map number_of tokens place token x found.2 ∙ ap number_of found.3 ∙ found.4)
+-- the tokens' numbers are those that the tokens have
+has_numbers : {T : Type 0} (number_of : T → ℕ) (n : ℕ) (tokens : List T) → HasNumbers number_of n tokens → HasNumbers (λ x. x) n (map number_of tokens)
+has_numbers number_of n tokens all x below =
+    let found = all x below in
+    let number = number_of found.1 in
+    (found.0, number, rw (length-map tokens number_of) found.2, get_or-map number_of tokens found.0 found.1 number found.2 ∙ ap number_of found.3, found.4)
 
 -- the hand that has taken every token in has every number
-pub gathers_all : (mail : MailId) (posters : List Posting) (takers : List Taking) → IsComplete mail posters takers → 0 < mail.takers → HasAllNumbers (with_takers (with_posters (idle_hand (Some (crew_of mail))) posters) takers)
+pub gathers_all : (mail : MailId) (posters : List PosterToken) (takers : List TakerToken) → IsComplete mail posters takers → 0 < mail.takers → HasAllNumbers (with_takers (with_posters (idle_hand (Some (crew_of mail))) posters) takers)
 gathers_all mail posters takers all some_taker = record {
   crew = crew_of mail;
   knows = refl;
@@ -80,14 +82,14 @@ gathers_all mail posters takers all some_taker = record {
 
 -- a hand with every number may take
 pub may_take : (hand : Hand) → HasAllNumbers hand → hand.takers ≢ []
-may_take hand all none = let zeroth = all.all_takers 0 all.some_taker in absurd (omega (arith, zeroth.1, ap length none))
+may_take hand all none = let zeroth = all.all_takers 0 all.some_taker in absurd (omega (arith, zeroth.2, ap length none))
 
 module _ {M : Type 0} (spelling : M → List ℕ) where
   -- a hand with every number knows what is left, also after it took more
   pub settles_after : (place : ℕ) (hand next : Hand) → HasAllNumbers hand → next.crew ≡ hand.crew → next.posters ≡ hand.posters → next.takers ≡ hand.takers
       → Learns (Stands spelling) place next (λ left. Balances next.posted next.taken (map spelling left))
   settles_after place hand next all crew posters takers =
-      settles spelling place next all.crew (crew ∙ all.knows) (subst (HasNumbers all.crew.posters) (sym posters) all.all_posters) (subst (HasNumbers all.crew.takers) (sym takers) all.all_takers)
+      settles spelling place next all.crew (crew ∙ all.knows) (subst (HasNumbers (λ x. x) all.crew.posters) (sym posters) all.all_posters) (subst (HasNumbers (λ x. x) all.crew.takers) (sym takers) all.all_takers)
 
   -- at an empty mail, what was taken last was left before
   pub emptied : (hand next : Hand) (left : List M) → next ≡ record hand { taken = hand.taken ++ map spelling left } → Held 0 (λ (items : List M). Balances next.posted next.taken (map spelling items))

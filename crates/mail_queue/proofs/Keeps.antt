@@ -1,5 +1,5 @@
 -- Each step keeps the rule of a mail.
-use Rattle.std.proofs.Common.{◌≡◌, ◌≢◌, ℕ, zero, suc, ◌+◌, ◌<◌, ◌≤◌, List, [], ◌∷◌, ◌++◌, map, length, set, Option, Some, None, sym, ap, ◌∙◌, refl, subst, ⊎_elim, arith}
+use Rattle.std.proofs.Common.{◌≡◌, ◌≢◌, ℕ, zero, suc, ◌+◌, List, [], ◌∷◌, ◌++◌, map, set, Option, Some, None, sym, ap, ◌∙◌, refl, subst, ⊎_elim, arith}
 use Rattle.std.specs.List.{sum_by, range_with_len}
 use Rattle.std.proofs.lemmas.List.{map-append}
 use Rattle.std.proofs.lemmas.List.Sums.{sum_by_push}
@@ -11,7 +11,9 @@ use Rattle.crossbeam_queue.specs.Fifo.{Pushes, Pops, Forks, Merges, Learns}
 use Rattle.crossbeam_queue.proofs.Lists.{at_set, at_snoc, set_else}
 use Rattle.mail_queue.specs.declared.hand.Crew.{Crew}
 use Rattle.mail_queue.specs.declared.hand.Hand.{Hand}
-use Rattle.mail_queue.specs.Hands.{times, times_number, posters_of, takers_of, first_hand, idle_hand, founding_hand, without_poster, next_poster, without_taker, next_taker, both_hands, after_post, after_take, Fits, Stands, Moment}
+use Rattle.mail_queue.specs.Messages.{times, times_number}
+use Rattle.mail_queue.specs.Rule.{posters_of, takers_of, Fits, Stands, Moment}
+use Rattle.mail_queue.specs.Hands.{first_hand, idle_hand, founding_hand, without_poster, next_poster, without_taker, next_taker, both_hands, after_post, after_take}
 use Rattle.mail_queue.proofs.Sums.{sum_by-set}
 use Rattle.mail_queue.proofs.Times.{times-append, times-cons, times_number-append, times_number-cut}
 

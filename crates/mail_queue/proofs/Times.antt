@@ -1,13 +1,14 @@
 -- How often something stands in a list.
-use Rattle.std.proofs.Common.{◌≡◌, ◌≢◌, ◌⊎◌, ℕ, zero, suc, ◌+◌, ◌<◌, ◌≤◌, List, [], ◌∷◌, ◌++◌, length, get_or, take, drop, cond, true, false, refl, sym, ap, ◌∙◌, subst, arith, eqb, eq-eqb, length-append, inl, inr, ⊎_elim}
-use Rattle.std.specs.List.{Contains, range_with_len}
+use Rattle.std.proofs.Common.{get_or, ◌≡◌, ℕ, zero, suc, ◌+◌, ◌<◌, ◌≤◌, List, [], ◌∷◌, ◌++◌, length, take, drop, cond, refl, sym, ap, ◌∙◌, subst, arith, eq-eqb, length-append, ⊎_elim}
+use Rattle.std.specs.List.{Any, All, Contains, range_with_len}
 use Rattle.std.specs.Str.{bytes_eq}
-use Rattle.std.proofs.lemmas.Bool.{eqb-true, ltb-true, le-ltb, cases_Bool, cond_both}
-use Rattle.std.proofs.lemmas.List.Sums.{sum_by-cons, sum_by-append}
+use Rattle.std.proofs.lemmas.Bool.{ltb-true, le-ltb, cases_Bool, cond_both}
+use Rattle.std.proofs.lemmas.List.Sums.{sum_by-append}
+use Rattle.std.proofs.lemmas.List.Elements.{Contains-append_right}
 use Rattle.std.proofs.lemmas.Slice.Eq.{bytes_eq-Decides}
 use Rattle.std.proofs.lemmas.Bool.Decides.{nat_tests}
-use Rattle.std.specs.Prelude.{nat_lt, ◌==◌}
-use Rattle.mail_queue.specs.Hands.{times, times_number}
+use Rattle.std.specs.Prelude.{nat_lt}
+use Rattle.mail_queue.specs.Messages.{times, times_number, Balances}
 
 pub times-append : (message : List ℕ) (xs ys : List (List ℕ)) → times message (xs ++ ys) ≡ times message xs + times message ys
 times-append message xs ys = sum_by-append _ xs ys
@@ -22,11 +23,12 @@ pub times_number-head : (x : ℕ) (xs : List ℕ) → 1 ≤ times_number x (x �
 times_number-head x xs = omega (arith, times_number-append x (x ∷ []) xs, ap {B = ℕ} (λ b. 0 + cond b 1 0) (eq-eqb x x refl))
 
 -- a number that stands in the list is counted
-pub times_number-contains : (xs : List ℕ) (x : ℕ) → Contains xs x → 1 ≤ times_number x xs
-times_number-contains [] x (k, short, is) = absurd (omega arith)
-times_number-contains (y ∷ ys) x (zero, short, is) = subst (λ z. 1 ≤ times_number x (z ∷ ys)) (sym is) (times_number-head x ys)
-times_number-contains (y ∷ ys) x (suc k, short, is) =
-    omega (arith, times_number-append x (y ∷ []) ys, times_number-contains ys x (k, omega arith, is))
+pub times_number-any : (xs : List ℕ) (x : ℕ) → Any (λ y. y ≡ x) xs → 1 ≤ times_number x xs
+times_number-any [] x (k, y, short, is, same) = absurd (omega arith)
+times_number-any (z ∷ zs) x (zero, y, short, is, same) =
+    subst (λ number. 1 ≤ times_number x (number ∷ zs)) (sym (is ∙ same)) (times_number-head x zs)
+times_number-any (z ∷ zs) x (suc k, y, short, is, same) =
+    omega (arith, times_number-append x (z ∷ []) zs, times_number-any zs x (k, y, omega arith, is, same))
 
 -- a list of numbers, cut after the first
 pub times_number-cut : (x : ℕ) (xs : List ℕ) → times_number x (drop 1 xs) + times_number x (take 1 xs) ≡ times_number x xs
@@ -93,3 +95,18 @@ length-le-times (x ∷ xs) ys fewer =
     let both = times-append message cut.0 cut.1 in
     omega arith) in
     omega (arith, ap length cut.2, length-append cut.0 (x ∷ cut.1), length-append cut.0 cut.1)
+
+times-get_or : (xs : List (List ℕ)) (k : ℕ) (d : List ℕ) → k < length xs → 1 ≤ times (get_or xs k d) xs
+times-get_or [] k d short = absurd (omega arith)
+times-get_or (x ∷ xs) zero d short = omega (arith, times-cons x x xs, times-self x)
+times-get_or (x ∷ xs) (suc k) d short =
+    omega (arith, times-cons (get_or xs k d) x xs, times-get_or xs k d (omega arith))
+
+-- what balances was posted before it was taken
+pub taken_is_posted : (posted taken left : List (List ℕ)) → Balances posted taken left → All (Contains posted) taken
+taken_is_posted posted taken left balances k d short =
+    let message = get_or taken k d in
+    let balance = balances message in
+    let some_taken = times-get_or taken k d short in
+    let cut = split_at_message message posted (omega arith) in
+    subst (λ xs. Contains xs message) (sym cut.2) (Contains-append_right cut.0 (message ∷ cut.1) message (0, omega arith, refl))

@@ -1,7 +1,7 @@
 -- What a hand that has every number knows: the others have posted and taken nothing.
-use Rattle.std.proofs.Common.{◌≡◌, ◌≢◌, ℕ, ◌+◌, ◌<◌, ◌≤◌, List, [], ◌∷◌, map, length, Option, Some, None, sym, ap, ◌∙◌, refl, subst, arith}
+use Rattle.std.proofs.Common.{◌≡◌, ◌≢◌, ℕ, ◌≤◌, List, [], ◌∷◌, map, length, Option, Some, None, sym, ap, ◌∙◌, refl, subst, arith}
 use Rattle.std.proofs.lemmas.List.{length-map}
-use Rattle.std.specs.List.{range_with_len, sum_by, Contains}
+use Rattle.std.specs.List.{range_with_len, sum_by, Any}
 use mathlib.Core.Option.{some}
 use lib.ListN.{get_elem?}
 use Rattle.std.specs.Prelude.{IsSome}
@@ -10,14 +10,15 @@ use Rattle.crossbeam_queue.specs.Passes.{Pass, view}
 use Rattle.mail_queue.specs.Insides.{IsPosterPass}
 use Rattle.mail_queue.specs.declared.hand.Crew.{Crew}
 use Rattle.mail_queue.specs.declared.hand.Hand.{Hand}
-use Rattle.mail_queue.specs.Hands.{times, times_number, HasNumbers, Balances, posters_of, takers_of, Fits, Stands, Moment}
+use Rattle.mail_queue.specs.Messages.{times, times_number, HasNumbers, Balances}
+use Rattle.mail_queue.specs.Rule.{posters_of, takers_of, Stands, Moment}
 use Rattle.mail_queue.proofs.Sums.{term_le, terms_le, sum_by-single}
-use Rattle.mail_queue.proofs.Times.{times_number-head, times_number-contains, times_number-range-le, times_number-range-lt, length-le-times}
+use Rattle.mail_queue.proofs.Times.{times_number-head, times_number-any, times_number-range-le, times_number-range-lt, length-le-times}
 
 -- where one hand has every number, another has none
 no_number_else : (numbers : Hand → List ℕ) (hands : List Hand) (n : ℕ)
     → ((x : ℕ) → sum_by (λ hand. times_number x (numbers hand)) hands ≡ times_number x (range_with_len 0 n))
-    → (place : ℕ) (hand : Hand) → get_elem? hands place ≡ some hand → HasNumbers n (numbers hand)
+    → (place : ℕ) (hand : Hand) → get_elem? hands place ≡ some hand → HasNumbers (λ x. x) n (numbers hand)
     → (j : ℕ) (other : Hand) → j ≢ place → get_elem? hands j ≡ some other → numbers other ≡ []
 no_number_else numbers hands n once place hand at has j other apart is_there = none (numbers other) refl
   where
@@ -29,7 +30,7 @@ no_number_else numbers hands n once place hand at has j other apart is_there = n
         let term = term_le count hands j other is_there in
         let total = once x in
         let below = times_number-range-lt x n (omega arith) in
-        let mine = times_number-contains (numbers hand) x (has x below) in
+        let mine = times_number-any (numbers hand) x (has x below) in
         let both = terms_le count hands j place other hand apart is_there at in
         let most = times_number-range-le x n in
         absurd (omega arith)
@@ -41,26 +42,26 @@ crew_known None some_known = cc
 module _ {M : Type 0} (spelling : M → List ℕ) where
   -- the hand with every poster's number has posted all that was posted
   posted_all : (items : List M) (hands : List Hand) (s : Stands spelling items hands) (place : ℕ) (hand : Hand)
-      → get_elem? hands place ≡ some hand → HasNumbers (posters_of s.crew) hand.posters
+      → get_elem? hands place ≡ some hand → HasNumbers (λ x. x) (posters_of s.crew) hand.posters
       → (message : List ℕ) → sum_by (λ h. times message h.posted) hands ≡ times message hand.posted
   posted_all items hands s place hand at has message =
       sum_by-single (λ h. times message h.posted) hands place hand at
       (λ j other apart is_there. ap (times message) ((s.fits j other is_there).no_poster (no_number_else (λ h. h.posters) hands _ s.posters place hand at has j other apart is_there)))
 
   taken_all : (items : List M) (hands : List Hand) (s : Stands spelling items hands) (place : ℕ) (hand : Hand)
-      → get_elem? hands place ≡ some hand → HasNumbers (takers_of s.crew) hand.takers
+      → get_elem? hands place ≡ some hand → HasNumbers (λ x. x) (takers_of s.crew) hand.takers
       → (message : List ℕ) → sum_by (λ h. times message h.taken) hands ≡ times message hand.taken
   taken_all items hands s place hand at has message =
       sum_by-single (λ h. times message h.taken) hands place hand at
       (λ j other apart is_there. ap (times message) ((s.fits j other is_there).no_taker (no_number_else (λ h. h.takers) hands _ s.takers place hand at has j other apart is_there)))
 
   -- the hand with every number knows what is left
-  pub settles : (place : ℕ) (hand : Hand) (crew : Crew) → hand.crew ≡ Some crew → HasNumbers crew.posters hand.posters → HasNumbers crew.takers hand.takers
+  pub settles : (place : ℕ) (hand : Hand) (crew : Crew) → hand.crew ≡ Some crew → HasNumbers (λ x. x) crew.posters hand.posters → HasNumbers (λ x. x) crew.takers hand.takers
       → Learns (Stands spelling) place hand (λ left. Balances hand.posted hand.taken (map spelling left))
   settles place hand crew knows posters takers items hands s at message =
       let is = (s.fits place hand at).crew_is crew knows in
-      let posted = posted_all items hands s place hand at (subst (λ c. HasNumbers (posters_of c) hand.posters) (sym is) posters) message in
-      let taken = taken_all items hands s place hand at (subst (λ c. HasNumbers (takers_of c) hand.takers) (sym is) takers) message in
+      let posted = posted_all items hands s place hand at (subst (λ c. HasNumbers (λ x. x) (posters_of c) hand.posters) (sym is) posters) message in
+      let taken = taken_all items hands s place hand at (subst (λ c. HasNumbers (λ x. x) (takers_of c) hand.takers) (sym is) takers) message in
       let balance = s.balance message in
       omega arith
 
@@ -76,8 +77,8 @@ module _ {M : Type 0} (spelling : M → List ℕ) where
       let total = s.posters number in
       let below = times_number-range-lt number (posters_of s.crew) (omega arith) in
       let is_zero : number ≡ 0 = omega arith in
-      let all : HasNumbers (posters_of s.crew) hand.posters =
-      λ x small. let same : number ≡ x = omega arith in subst (λ ys. Contains ys x) (sym has) (0, omega arith, same) in
+      let all : HasNumbers (λ x. x) (posters_of s.crew) hand.posters =
+      λ x small. let same : number ≡ x = omega arith in subst (λ ys. Any (λ y. y ≡ x) ys) (sym has) (0, number, omega arith, refl, same) in
       let fewer = length-le-times (map spelling left) hand.posted (λ message.
       let posted = posted_all left moment.hands s moment.place hand moment.is_there all message in
       let balance = s.balance message in

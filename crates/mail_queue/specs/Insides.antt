@@ -1,10 +1,12 @@
 -- How the passes of a mail and of its tokens give what contracts see of them.
-use Rattle.std.specs.Prelude.{◌≡◌, ◌<◌, ℕ, List, [], ◌∷◌, Option, Some, None, IsSome, false}
+use Rattle.std.specs.Prelude.{◌≡◌, ◌<◌, ℕ, List, [], ◌∷◌, ◌++◌, map, Some, IsSome, false}
 use Rattle.crossbeam_queue.specs.Passes.{Pass, view}
 use Rattle.mail_queue.specs.declared.hand.Crew.{Crew}
 use Rattle.mail_queue.specs.declared.hand.Hand.{Hand}
-use Rattle.mail_queue.specs.Hands.{posters_of, takers_of, idle_hand}
-use Rattle.mail_queue.specs.Tokens.{MailId, Posting, Taking, crew_of}
+use Rattle.mail_queue.specs.Messages.{HasNumbers}
+use Rattle.mail_queue.specs.Rule.{posters_of, takers_of}
+use Rattle.mail_queue.specs.Tokens.{MailId, PosterToken, TakerToken}
+use Rattle.mail_queue.specs.Gathering.{posted_by, taken_by}
 
 module _ {M : Type 0} where
   -- what the pass knows
@@ -39,7 +41,21 @@ module _ {M : Type 0} where
 
 -- a hand that knows the crew, and has posted and taken nothing
 pub record CanDeal (hand : Hand) : Type 0 where
-  pub founds : hand.founds ≡ false
   pub crew : IsSome hand.crew
   pub posted : hand.posted ≡ []
   pub taken : hand.taken ≡ []
+
+-- the hand after it took these posters in, or these takers
+abbrev pub with_posters : Hand → List PosterToken → Hand
+with_posters hand posters = record hand { posters = hand.posters ++ map (λ poster. poster.number) posters; posted = hand.posted ++ posted_by posters }
+
+abbrev pub with_takers : Hand → List TakerToken → Hand
+with_takers hand takers = record hand { takers = hand.takers ++ map (λ taker. taker.number) takers; taken = hand.taken ++ taken_by takers }
+
+-- the hand has every number of its mail
+pub record HasAllNumbers (hand : Hand) : Type 0 where
+  pub crew : Crew
+  pub knows : hand.crew ≡ Some crew
+  pub all_posters : HasNumbers (λ x. x) crew.posters hand.posters
+  pub all_takers : HasNumbers (λ x. x) crew.takers hand.takers
+  pub some_taker : 0 < crew.takers

@@ -11,13 +11,13 @@ pub record MailId : Type 0 where
   pub takers : ℕ
 
 -- the right to post, and what was posted by it
-pub record Posting : Type 0 where
+pub record PosterToken : Type 0 where
   pub mail : MailId
   pub number : ℕ
   pub posted : List (List ℕ)
 
 -- the right to take, and what was taken by it
-pub record Taking : Type 0 where
+pub record TakerToken : Type 0 where
   pub mail : MailId
   pub number : ℕ
   pub taken : List (List ℕ)
@@ -26,24 +26,24 @@ abbrev pub crew_of : MailId → Crew
 crew_of mail = record { posters = mail.posters; takers = mail.takers }
 
 -- what a poster's token knows
-abbrev pub posting_hand : Posting → Hand
-posting_hand token = record { founds = false; crew = Some (crew_of token.mail); posters = token.number ∷ []; takers = []; posted = token.posted; taken = [] }
+abbrev pub poster_hand : PosterToken → Hand
+poster_hand token = record { founds = false; crew = Some (crew_of token.mail); posters = token.number ∷ []; takers = []; posted = token.posted; taken = [] }
 
 -- what a taker's token knows
-abbrev pub taking_hand : Taking → Hand
-taking_hand token = record { founds = false; crew = Some (crew_of token.mail); posters = []; takers = token.number ∷ []; posted = []; taken = token.taken }
+abbrev pub taker_hand : TakerToken → Hand
+taker_hand token = record { founds = false; crew = Some (crew_of token.mail); posters = []; takers = token.number ∷ []; posted = []; taken = token.taken }
 
 -- the tokens as they are made
-abbrev pub new_posting : MailId → ℕ → Posting
-new_posting mail number = record { mail = mail; number = number; posted = [] }
+abbrev pub new_poster : MailId → ℕ → PosterToken
+new_poster mail number = record { mail = mail; number = number; posted = [] }
 
-abbrev pub new_taking : MailId → ℕ → Taking
-new_taking mail number = record { mail = mail; number = number; taken = [] }
+abbrev pub new_taker : MailId → ℕ → TakerToken
+new_taker mail number = record { mail = mail; number = number; taken = [] }
 
 -- the token after it posted a message
-abbrev pub posted_also : Posting → List ℕ → Posting
-posted_also token message = record token { posted = token.posted ++ message ∷ [] }
+abbrev pub with_posted : PosterToken → List ℕ → PosterToken
+with_posted token message = record token { posted = token.posted ++ message ∷ [] }
 
 -- the token after it took a message
-abbrev pub taken_also : Taking → List ℕ → Taking
-taken_also token message = record token { taken = token.taken ++ message ∷ [] }
+abbrev pub with_taken : TakerToken → List ℕ → TakerToken
+with_taken token message = record token { taken = token.taken ++ message ∷ [] }

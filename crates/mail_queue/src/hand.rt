@@ -26,16 +26,19 @@ pub struct Hand {
     pub taken: LinkedList<LinkedList<u8>>,
 }
 
+/// The rule of a mail.
 pub struct Fair;
 
 impl<M: Letter> Protocol<M, Hand> for Fair {
-    ghost use Rattle.mail_queue.specs.Hands.{Stands, first_hand};
+    ghost use Rattle.mail_queue.specs.Rule.{Stands};
+    ghost use Rattle.mail_queue.specs.Hands.{first_hand};
 
     ghost holds = { Stands M.spelling };
 
     ghost first = { first_hand };
 }
 
+/// A post: the message joins the hand's list.
 pub struct Posts;
 
 impl<M: Letter> Outcome<M, Hand> for Posts {
@@ -46,11 +49,12 @@ impl<M: Letter> Outcome<M, Hand> for Posts {
 }
 
 impl<M: Letter> Lesson<M, Hand> for Posts {
-    ghost use Rattle.mail_queue.specs.Hands.{Moment};
+    ghost use Rattle.mail_queue.specs.Rule.{Moment};
 
     ghost fact = { Moment M.spelling };
 }
 
+/// A take: the message joins the hand's list.
 pub struct Takes;
 
 impl<M: Letter> Outcome<M, Hand> for Takes {
@@ -61,7 +65,7 @@ impl<M: Letter> Outcome<M, Hand> for Takes {
 }
 
 impl<M: Letter> Lesson<M, Hand> for Takes {
-    ghost use Rattle.mail_queue.specs.Hands.{Moment};
+    ghost use Rattle.mail_queue.specs.Rule.{Moment};
 
     ghost fact = { Moment M.spelling };
 }
@@ -71,7 +75,7 @@ pub struct Gathered;
 
 impl<M: Letter> Lesson<M, Hand> for Gathered {
     ghost use Rattle.std.specs.Prelude.{map};
-    ghost use Rattle.mail_queue.specs.Hands.{Balances};
+    ghost use Rattle.mail_queue.specs.Messages.{Balances};
 
     ghost fact = { λ hand left. Balances hand.posted hand.taken (map M.spelling left) };
 }
@@ -89,6 +93,7 @@ impl Founding for Brand {
     ghost takers = { 0 };
 }
 
+/// The first hand founds the mail, and has every number then.
 pub struct Founds<F> {
     of: PhantomData<F>,
 }
@@ -102,6 +107,7 @@ impl<F: Founding> Split<Hand> for Founds<F> {
     ghost right = { λ _. idle_hand (Some (record { posters = F.posters; takers = F.takers })) };
 }
 
+/// A hand gives its first poster's number to a new one.
 pub struct DealsPoster;
 
 impl Split<Hand> for DealsPoster {
@@ -112,6 +118,7 @@ impl Split<Hand> for DealsPoster {
     ghost right = { next_poster };
 }
 
+/// A hand gives its first taker's number to a new one.
 pub struct DealsTaker;
 
 impl Split<Hand> for DealsTaker {
@@ -122,6 +129,7 @@ impl Split<Hand> for DealsTaker {
     ghost right = { next_taker };
 }
 
+/// A hand takes another in.
 pub struct Gathers;
 
 impl Join<Hand> for Gathers {

@@ -1,10 +1,11 @@
 //! What the tokens of a mail tell once they are gathered.
-ghost use Rattle.std.specs.Prelude.{◌≡◌, ◌↔◌, ◌<◌, IsTrue, All, Any, [], map, Some, Err, IfOk, OnOk, ℕ, length};
-ghost use Rattle.mail_queue.specs.Hands.{Balances, idle_hand};
+ghost use Rattle.std.specs.Prelude.{◌≡◌, ◌↔◌, ◌<◌, IsTrue, All, Any, Contains, [], map, Some, Err, IfOk, OnOk, ℕ, length};
+ghost use Rattle.mail_queue.specs.Messages.{Balances, HasNumbers};
+ghost use Rattle.mail_queue.specs.Hands.{idle_hand};
 ghost use Rattle.crossbeam_queue.specs.Passes.{view};
 ghost use Rattle.mail_queue.specs.Tokens.{crew_of};
-ghost use Rattle.mail_queue.specs.Insides.{IsIdlePassOf};
-ghost use Rattle.mail_queue.specs.Gathering.{HasAllNumbers, with_posters, with_takers, IsComplete, HasEachNumber, posted_by, taken_by};
+ghost use Rattle.mail_queue.specs.Insides.{IsIdlePassOf, HasAllNumbers, with_posters, with_takers};
+ghost use Rattle.mail_queue.specs.Gathering.{IsComplete, posted_by, taken_by};
 
 use crate::fault::{GatherFault, NoMemory};
 use crate::hand::{Gathered, Gathers, Hand, Takes};
@@ -13,9 +14,9 @@ use crate::mail::{CAPACITY, Mail, Poster, Taker};
 use crossbeam_queue::Pass;
 use std::alloc::Global;
 
-/// The messages left in the mail, oldest first, once all its tokens are brought together.
-/// Each message stands in the posters' lists exactly as often as in the takers' lists and among those left, taken together.
-/// A refusal hands nothing back.
+/// The messages that are left in the mail once all its tokens are brought together.
+/// Each message stands in the posters' lists exactly as often as in the takers' lists and among those left, taken together, so what was taken was posted.
+/// `Incomplete` exactly where the token of a number that `new` gave is missing. A refusal hands nothing back.
 pub fn gathered<M: Letter + Drop>(
     alloc: Global,
     mail: Mail<M>,
@@ -26,6 +27,7 @@ pub fn gathered<M: Letter + Drop>(
     requires takers { All (λ taker. taker.mail ≡ mail) takers.items }
     ensures incomplete { (result ≡ Err GatherFault.Incomplete) ↔ ¬ IsComplete mail posters.items takers.items }
     ensures complete { OnOk result (IsComplete mail posters.items takers.items) }
+    ensures only_posted { OnOk result (All (Contains (posted_by posters.items)) (taken_by takers.items)) }
     ensures balance { IfOk result (λ left. Balances (posted_by posters.items) (taken_by takers.items) (map M.spelling left.items)) }
 {
     if !has_each_number(&posters, mail.posters) || !has_each_number(&takers, mail.takers) {
@@ -33,7 +35,8 @@ pub fn gathered<M: Letter + Drop>(
     }
     let mut whole = gather_posters(&mail, posters);
     gather_takers(&mail, &mut whole, takers);
-    Ok(left_in(alloc, &mail, &mut whole)?)
+    let left = left_in(alloc, &mail, &mut whole)?;
+    Ok(left)
 }
 
 /// A token with a number.
@@ -61,7 +64,7 @@ impl<M> Numbered for Taker<M> {
 }
 
 fn has_each_number<T: Numbered>(tokens: &Vec<T>, count: u32) -> bool
-    ensures { IsTrue result ↔ HasEachNumber T.number_of count tokens.now.items }
+    ensures { IsTrue result ↔ HasNumbers T.number_of count tokens.now.items }
 {
     for number in 0..count {
         if !has_number(tokens, number) {
@@ -111,7 +114,8 @@ fn gather_takers<M: Letter + Drop>(mail: &Mail<M>, whole: &mut Pass<M, Hand>, ta
     }
 }
 
-// No thread is at work in the mail by now, so the first attempt that takes nothing finds it empty, and the rounds never run out.
+// With every token in hand no other thread is at work in the mail, so the first attempt that takes nothing finds it empty.
+// No contract says so: hence the rounds, whose end no run comes to.
 fn left_in<M: Letter + Drop>(
     alloc: Global,
     mail: &Mail<M>,

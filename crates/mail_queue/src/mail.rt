@@ -13,7 +13,7 @@ pub const CAPACITY: usize = 64;
 
 pub(crate) type Queue<M> = RuledArrayQueue<M, Hand, Fair, Global>;
 
-/// A mail. Contracts see which one it is, and for how many posters and takers it was made.
+/// A mail that threads share by reference. Contracts see which one it is, and for how many posters and takers it was made.
 #[derive(Drop)]
 pub struct Mail<M: Letter> {
     pub(crate) queue: Queue<M>,
@@ -41,10 +41,10 @@ pub struct Poster<M> {
 }
 
 impl<M> Model for Poster<M> {
-    ghost use Rattle.mail_queue.specs.Tokens.{Posting};
+    ghost use Rattle.mail_queue.specs.Tokens.{PosterToken};
     ghost use Rattle.mail_queue.specs.Insides.{hand_of, mail_of, IsPosterPass};
 
-    ghost Value = { Posting };
+    ghost Value = { PosterToken };
 
     ghost view = { λ token. record { mail = mail_of token.pass; number = token.number; posted = (hand_of token.pass).posted } };
 
@@ -59,10 +59,10 @@ pub struct Taker<M> {
 }
 
 impl<M> Model for Taker<M> {
-    ghost use Rattle.mail_queue.specs.Tokens.{Taking};
+    ghost use Rattle.mail_queue.specs.Tokens.{TakerToken};
     ghost use Rattle.mail_queue.specs.Insides.{hand_of, mail_of, IsTakerPass};
 
-    ghost Value = { Taking };
+    ghost Value = { TakerToken };
 
     ghost view = { λ token. record { mail = mail_of token.pass; number = token.number; taken = (hand_of token.pass).taken } };
 
@@ -71,29 +71,34 @@ impl<M> Model for Taker<M> {
 
 impl<M: Letter> Mail<M> {
     ghost use Rattle.crossbeam_queue.specs.Fifo.{Held};
-    ghost use Rattle.mail_queue.specs.Hands.{Moment};
-    ghost use Rattle.mail_queue.specs.Tokens.{posting_hand, taking_hand, posted_also, taken_also};
+    ghost use Rattle.mail_queue.specs.Rule.{Moment};
+    ghost use Rattle.mail_queue.specs.Tokens.{poster_hand, taker_hand, with_posted, with_taken};
 
-    /// Puts the message into the mail, or hands it back where the mail was full at this call's step.
+    /// Puts the message into the mail, and adds it to the poster's list.
+    /// Where the mail is full at this call's step the message is handed back, and the list stays.
+    /// May wait for the step of another thread, and never for room.
     pub fn post<R: Wait>(&self, rt: &R, poster: &mut Poster<M>, message: M) -> Result<(), M>
         requires mail { poster.old.mail ≡ self.now }
-        ensures posted { OnOk result (poster.new ≡ posted_also poster.old (M.spelling message)) }
+        ensures posted { OnOk result (poster.new ≡ with_posted poster.old (M.spelling message)) }
         ensures handed_back { IfErr result (λ back. back ≡ message) }
         ensures stays { OnErr result (poster.new ≡ poster.old) }
-        ensures full { OnErr result (Held CAPACITY (Moment M.spelling (posting_hand poster.old))) }
+        ensures full { OnErr result (Held CAPACITY (Moment M.spelling (poster_hand poster.old))) }
         ensures only_poster { OnErr result (self.now.posters ≡ 1 → CAPACITY ≤ length poster.old.posted) }
     {
-        self.queue
-            .push_as::<Posts, R>(rt, &mut poster.pass, message)
+        let pass = &mut poster.pass;
+        self.queue.push_as::<Posts, R>(rt, pass, message)
     }
 
-    /// Takes the oldest message, or none where the mail was empty at one moment of the call.
+    /// Takes a message, and adds it to the taker's list. That it was posted is told by `laws::gathered`.
+    /// `None` only where the mail was empty at one moment of the call, and the list then stays.
+    /// May wait for the step of another thread, and never for a message.
     pub fn take<R: Wait>(&self, rt: &R, taker: &mut Taker<M>) -> Option<M>
         requires mail { taker.old.mail ≡ self.now }
-        ensures taken { IfSome result (λ message. taker.new ≡ taken_also taker.old (M.spelling message)) }
+        ensures taken { IfSome result (λ message. taker.new ≡ with_taken taker.old (M.spelling message)) }
         ensures stays { IfNone result (taker.new ≡ taker.old) }
-        ensures empty { IfNone result (Held 0 (Moment M.spelling (taking_hand taker.old))) }
+        ensures empty { IfNone result (Held 0 (Moment M.spelling (taker_hand taker.old))) }
     {
-        self.queue.pop_as::<Takes, R>(rt, &mut taker.pass)
+        let pass = &mut taker.pass;
+        self.queue.pop_as::<Takes, R>(rt, pass)
     }
 }

@@ -3,7 +3,7 @@ ghost use Rattle.std.specs.Prelude.{◌≡◌, ◌<◌, [], map, Some, None, IfO
 ghost use Rattle.std.specs.List.{range_with_len};
 ghost use Rattle.crossbeam_queue.specs.Passes.{IsPassOf, IsSamePass, view};
 ghost use Rattle.mail_queue.specs.Hands.{founding_hand, first_hand};
-ghost use Rattle.mail_queue.specs.Tokens.{new_posting, new_taking};
+ghost use Rattle.mail_queue.specs.Tokens.{new_poster, new_taker};
 ghost use Rattle.mail_queue.specs.Insides.{mail_of, IsPosterPass, IsTakerPass, CanDeal};
 
 use crate::fault::NoMemory;
@@ -24,8 +24,8 @@ impl<M: Letter + Drop> Mail<M> {
         requires some_poster { 0 < posters }
         requires some_taker { 0 < takers }
         ensures mail { IfOk result (λ made. (made.0.posters ≡ posters) × (made.0.takers ≡ takers)) }
-        ensures posters { IfOk result (λ made. made.1.items ≡ map (new_posting made.0) (range_with_len 0 posters)) }
-        ensures takers { IfOk result (λ made. made.2.items ≡ map (new_taking made.0) (range_with_len 0 takers)) }
+        ensures posters { IfOk result (λ made. made.1.items ≡ map (new_poster made.0) (range_with_len 0 posters)) }
+        ensures takers { IfOk result (λ made. made.2.items ≡ map (new_taker made.0) (range_with_len 0 takers)) }
     {
         let (queue, mut keeper) = Queue::<M>::ruled(alloc, CAPACITY)?;
         found::<M, Brand>(&queue, &mut keeper, posters, takers);
@@ -58,7 +58,7 @@ fn found<M: Letter, F: Founding>(
 fn poster_of<M>(number: u32, pass: Pass<M, Hand>) -> Poster<M>
     requires poster { IsPosterPass number pass }
     requires nothing { (view pass).posted ≡ [] }
-    ensures { result ≡ new_posting (mail_of pass) number }
+    ensures { result ≡ new_poster (mail_of pass) number }
 {
     Poster { number, pass }
 }
@@ -66,7 +66,7 @@ fn poster_of<M>(number: u32, pass: Pass<M, Hand>) -> Poster<M>
 fn taker_of<M>(number: u32, pass: Pass<M, Hand>) -> Taker<M>
     requires taker { IsTakerPass number pass }
     requires nothing { (view pass).taken ≡ [] }
-    ensures { result ≡ new_taking (mail_of pass) number }
+    ensures { result ≡ new_taker (mail_of pass) number }
 {
     Taker { number, pass }
 }
@@ -81,7 +81,7 @@ fn dealt_posters<M: Letter>(
     requires all { CanDeal (view keeper.old) × ((view keeper.old).posters ≡ range_with_len 0 count) }
     ensures pass { IsSamePass keeper.old keeper.new }
     ensures dealt { IfOk result (λ _. view keeper.new ≡ record (view keeper.old) { posters = [] }) }
-    ensures posters { IfOk result (λ made. made.items ≡ map (new_posting (mail_of keeper.old)) (range_with_len 0 count)) }
+    ensures posters { IfOk result (λ made. made.items ≡ map (new_poster (mail_of keeper.old)) (range_with_len 0 count)) }
 {
     let mut made = Vec::with_capacity(alloc, count as usize)?;
     for number in 0..count {
@@ -101,7 +101,7 @@ fn dealt_takers<M: Letter>(
     requires all { CanDeal (view keeper.old) × ((view keeper.old).takers ≡ range_with_len 0 count) }
     ensures pass { IsSamePass keeper.old keeper.new }
     ensures dealt { IfOk result (λ _. view keeper.new ≡ record (view keeper.old) { takers = [] }) }
-    ensures takers { IfOk result (λ made. made.items ≡ map (new_taking (mail_of keeper.old)) (range_with_len 0 count)) }
+    ensures takers { IfOk result (λ made. made.items ≡ map (new_taker (mail_of keeper.old)) (range_with_len 0 count)) }
 {
     let mut made = Vec::with_capacity(alloc, count as usize)?;
     for number in 0..count {

@@ -3,7 +3,7 @@ use Rattle.std.specs.Vec.Iter.{into_iter_items}
 use Rattle.crossbeam_queue.specs.Passes.{view}
 use Rattle.mail_queue.specs.Hands.{idle_hand}
 use Rattle.mail_queue.specs.Tokens.{crew_of}
-use Rattle.mail_queue.specs.Gathering.{with_posters}
+use Rattle.mail_queue.specs.Insides.{with_posters}
 use Rattle.mail_queue.specs.Insides.{IsIdlePassOf}
 use Rattle.mail_queue.proofs.laws.gather_posters.Given as goal
 

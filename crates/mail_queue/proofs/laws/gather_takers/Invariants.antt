@@ -1,7 +1,7 @@
 use Rattle.std.proofs.Common.{◌≡◌, All}
 use Rattle.std.specs.Vec.Iter.{into_iter_items}
 use Rattle.crossbeam_queue.specs.Passes.{view}
-use Rattle.mail_queue.specs.Gathering.{with_takers}
+use Rattle.mail_queue.specs.Insides.{with_takers}
 use Rattle.mail_queue.specs.Insides.{IsIdlePassOf}
 use Rattle.mail_queue.proofs.laws.gather_takers.Given as goal
 

@@ -1,9 +1,10 @@
-use Rattle.std.proofs.Common.{◌≡◌, ◌<◌, map, Some, sym, ap, ◌∙◌, subst}
-use Rattle.crossbeam_queue.specs.Passes.{view}
+use Rattle.std.proofs.Common.{◌<◌, map, sym, ap, ◌∙◌, subst}
 use Rattle.mail_queue.specs.declared.hand.Hand.{Hand}
-use Rattle.mail_queue.specs.Hands.{Balances}
-use Rattle.mail_queue.specs.Gathering.{IsComplete, HasAllNumbers, with_takers}
+use Rattle.mail_queue.specs.Messages.{Balances}
+use Rattle.mail_queue.specs.Gathering.{IsComplete}
+use Rattle.mail_queue.specs.Insides.{HasAllNumbers, with_takers}
 use Rattle.mail_queue.proofs.Gathers.{gathers_all}
+use Rattle.mail_queue.proofs.Times.{taken_is_posted}
 use Rattle.mail_queue.proofs.laws.gathered.Goals as goal
 
 pub left_in-requires-clause-whole : goal.left_in-requires-clause-whole
@@ -18,8 +19,14 @@ left_in-requires-clause-whole g c =
     let is = c.gather_takers.ensures.gathered ∙ ap (λ hand. with_takers hand takers) c.gather_posters-whole.ensures.gathered in
     subst HasAllNumbers (sym is) (gathers_all c.args.mail posters takers all some_taker)
 
+pub returns-clause-only_posted : goal.returns-clause-only_posted
+returns-clause-only_posted g c =
+    let takers = c.args.takers.items in
+    let is = c.gather_takers.ensures.gathered ∙ ap (λ hand. with_takers hand takers) c.gather_posters-whole.ensures.gathered in
+    taken_is_posted _ _ (map g.M.Letter.spelling c.in_ok-left.left.items) (subst (λ (hand : Hand). Balances hand.posted hand.taken (map g.M.Letter.spelling c.in_ok-left.left.items)) is c.in_ok-left.ensures)
+
 pub returns-clause-balance : goal.returns-clause-balance
 returns-clause-balance g c =
     let takers = c.args.takers.items in
     let is = c.gather_takers.ensures.gathered ∙ ap (λ hand. with_takers hand takers) c.gather_posters-whole.ensures.gathered in
-    subst (λ (hand : Hand). Balances hand.posted hand.taken (map g.M.Letter.spelling c.in_ok-left_in.field-0.items)) is c.in_ok-left_in.ensures
+    subst (λ (hand : Hand). Balances hand.posted hand.taken (map g.M.Letter.spelling c.in_ok-left.left.items)) is c.in_ok-left.ensures

@@ -1,4 +1,4 @@
-use Rattle.std.proofs.Common.{◌≡◌, sym, ap, ◌∙◌, subst}
+use Rattle.std.proofs.Common.{sym, ap, ◌∙◌}
 use Rattle.crossbeam_queue.specs.Passes.{view}
 use Rattle.mail_queue.proofs.Gathers.{may_take, settles_after, emptied}
 use Rattle.mail_queue.proofs.Keeps.{takes}

@@ -1,10 +1,10 @@
-use Rattle.std.proofs.Common.{◌≡◌, ◌+◌, ◌-◌, [], ◌∷◌, ◌++◌, map, drop, sym, ap, ◌∙◌, arith}
+use Rattle.std.proofs.Common.{[], ◌∷◌, ◌++◌, map, drop, sym, ap, ◌∙◌, arith}
 use Rattle.std.specs.List.{range_with_len}
 use Rattle.std.specs.Prelude.{is_some}
 use Rattle.std.proofs.lemmas.List.FromFn.{map-range_with_len_more}
 use Rattle.crossbeam_queue.specs.Passes.{view}
 use Rattle.mail_queue.specs.Hands.{without_poster}
-use Rattle.mail_queue.specs.Tokens.{new_posting}
+use Rattle.mail_queue.specs.Tokens.{new_poster}
 use Rattle.mail_queue.specs.Insides.{mail_of}
 use Rattle.mail_queue.proofs.Deals.{range_with_len-next, dealt_poster, same_mail}
 use Rattle.mail_queue.proofs.Keeps.{deals_poster}
@@ -33,6 +33,6 @@ loop-number-preserved g c =
       (dealt.queue.0.0 ∙ at.0.0, dealt.queue.0.1 ∙ at.0.1, dealt.queue.0.2 ∙ at.0.2),
       dealt.rule.0 ∙ ap without_poster at.1 ∙ ap (λ xs. record hand { posters = drop 1 xs }) numbers,
       c.in_ok-push.ensures.items ∙ ap (λ xs. xs ++ c.poster_of.result ∷ []) at.2
-          ∙ ap (λ token. map (new_posting (mail_of c.args.keeper.now)) (range_with_len 0 c.loop-number.number) ++ token ∷ []) (c.poster_of.ensures ∙ ap (λ m. new_posting m c.loop-number.number) mail)
-          ∙ sym (map-range_with_len_more (new_posting (mail_of c.args.keeper.now)) 0 c.loop-number.number c.loop-number.number (omega arith)),
+          ∙ ap (λ token. map (new_poster (mail_of c.args.keeper.now)) (range_with_len 0 c.loop-number.number) ++ token ∷ []) (c.poster_of.ensures ∙ ap (λ m. new_poster m c.loop-number.number) mail)
+          ∙ sym (map-range_with_len_more (new_poster (mail_of c.args.keeper.now)) 0 c.loop-number.number c.loop-number.number (omega arith)),
     )

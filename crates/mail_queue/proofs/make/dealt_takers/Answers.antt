@@ -1,10 +1,10 @@
-use Rattle.std.proofs.Common.{◌≡◌, ◌+◌, ◌-◌, [], ◌∷◌, ◌++◌, map, drop, sym, ap, ◌∙◌, arith}
+use Rattle.std.proofs.Common.{[], ◌∷◌, ◌++◌, map, drop, sym, ap, ◌∙◌, arith}
 use Rattle.std.specs.List.{range_with_len}
 use Rattle.std.specs.Prelude.{is_some}
 use Rattle.std.proofs.lemmas.List.FromFn.{map-range_with_len_more}
 use Rattle.crossbeam_queue.specs.Passes.{view}
 use Rattle.mail_queue.specs.Hands.{without_taker}
-use Rattle.mail_queue.specs.Tokens.{new_taking}
+use Rattle.mail_queue.specs.Tokens.{new_taker}
 use Rattle.mail_queue.specs.Insides.{mail_of}
 use Rattle.mail_queue.proofs.Deals.{range_with_len-next, dealt_taker, same_mail}
 use Rattle.mail_queue.proofs.Keeps.{deals_taker}
@@ -33,6 +33,6 @@ loop-number-preserved g c =
       (dealt.queue.0.0 ∙ at.0.0, dealt.queue.0.1 ∙ at.0.1, dealt.queue.0.2 ∙ at.0.2),
       dealt.rule.0 ∙ ap without_taker at.1 ∙ ap (λ xs. record hand { takers = drop 1 xs }) numbers,
       c.in_ok-push.ensures.items ∙ ap (λ xs. xs ++ c.taker_of.result ∷ []) at.2
-          ∙ ap (λ token. map (new_taking (mail_of c.args.keeper.now)) (range_with_len 0 c.loop-number.number) ++ token ∷ []) (c.taker_of.ensures ∙ ap (λ m. new_taking m c.loop-number.number) mail)
-          ∙ sym (map-range_with_len_more (new_taking (mail_of c.args.keeper.now)) 0 c.loop-number.number c.loop-number.number (omega arith)),
+          ∙ ap (λ token. map (new_taker (mail_of c.args.keeper.now)) (range_with_len 0 c.loop-number.number) ++ token ∷ []) (c.taker_of.ensures ∙ ap (λ m. new_taker m c.loop-number.number) mail)
+          ∙ sym (map-range_with_len_more (new_taker (mail_of c.args.keeper.now)) 0 c.loop-number.number c.loop-number.number (omega arith)),
     )

@@ -1,4 +1,3 @@
-use Rattle.std.proofs.Common.{◌≡◌, sym, ap, ◌∙◌}
 use Rattle.mail_queue.proofs.Keeps.{founds}
 use Rattle.mail_queue.proofs.make.found.Goals as goal
 
