@@ -12,7 +12,7 @@ use lib.ListN.{get_elem?}
 use Rattle.atomic_table.specs.Table.{Final, Seen}
 use Rattle.turn_lock.specs.declared.view.Start.{Start}
 use Rattle.turn_lock.specs.declared.view.View.{View}
-use Rattle.turn_lock.specs.Pass.{PassState, IsMadeOf}
+use Rattle.turn_lock.specs.Pass.{PassState, HasRoot, IsMadeOf}
 use Rattle.turn_lock.specs.Gather.{Gathers}
 use Rattle.turn_lock.specs.View.{own}
 use Rattle.turn_lock.proofs.Counts.{times, times-Contains, nowhere}
@@ -32,7 +32,7 @@ module _ {V E R : Type 0} (history : V → List E) (root_of : V → R) where
   -- the value of the slots xs has the root and the histories of these passes, and is made of their entries
   pub record IsEnd (xs : List (Option V)) (passes : List (PassState E R)) (value : V) : Type 0 where
     pub at_home : get_elem? xs 0 ≡ some (Some value)
-    pub roots : All (λ p. root_of value ≡ p.root) passes
+    pub roots : All (λ p. HasRoot p (root_of value)) passes
     pub begins : All (λ p. IsPrefix p.seen (history value)) passes
     pub made : IsMadeOf (history value) passes
 
@@ -54,19 +54,18 @@ module _ {V E R : Type 0} (history : V → List E) (root_of : V → R) (start : 
       let f = k.fits id v at in
       let here : (x : ℕ) → x < k.drawn → 1 ≤ times x v.numbers = λ x low. times-Contains x v.numbers (Contains-permutation _ _ x (IsPermutation-sym _ _ g.numbers) (all x (omega (arith, k.few.0)))) in
       let only_here : (j : ℕ) (u : View E R) (x : ℕ) → get_elem? s.views j ≡ some u → 1 ≤ times x u.numbers → j ≡ id =
-          λ j u x e has. apart history root_of start s k j id u v x e at has (here x (is_drawn history root_of start s k j u x e has)) in
+      λ j u x e has. apart history root_of start s k j id u v x e at has (here x (is_drawn history root_of start s k j u x e has)) in
       let free : k.turn ≡ 0 = dite (ℕ_discrete k.turn 0) (λ e. e) (λ busy.
-          let t = k.taken busy in
-          absurd (not_holder history root_of start s id t.0 v t.1 at t.2 g.idle t.3 (only_here t.0 t.1 (own t.1.numbers) t.2 (holder_has history root_of start s k t.0 t.1 t.2 t.3)))) in
+      let t = k.taken busy in
+      absurd (not_holder history root_of start s id t.0 v t.1 at t.2 g.idle t.3 (only_here t.0 t.1 (own t.1.numbers) t.2 (holder_has history root_of start s k t.0 t.1 t.2 t.3)))) in
       let home = k.free free in
       let no_entry : (i : ℕ) (u : View E R) → i ≢ id → get_elem? s.views i ≡ some u → u.mine ≡ [] =
-          λ i u ne e. ((k.fits i u e).no_number (nowhere u.numbers (λ x. dite (ℕ_discrete (times x u.numbers) 0) (λ z. z) (λ some-here. absurd (ne (only_here i u x e (omega arith))))))).0 in
-      let entries : IsPermutation v.mine (enumerate_from 0 k.log) = subst (λ l. IsPermutation l (enumerate_from 0 k.log)) (flat_map-alone (λ (u : View E R). u.mine) s.views id v at no_entry) k.entries in
-      (
+      λ i u ne e. ((k.fits i u e).no_number (nowhere u.numbers (λ x. dite (ℕ_discrete (times x u.numbers) 0) (λ z. z) (λ some-here. absurd (ne (only_here i u x e (omega arith))))))).0 in
+      let entries : IsPermutation v.mine (enumerate_from 0 k.log) = subst (λ l. IsPermutation l (enumerate_from 0 k.log)) (flat_map-alone (λ (u : View E R). u.mine) s.views id v at no_entry) k.entries in (
         home.value,
         record {
           at_home = final.4 0 (Some home.value) home.at_home;
-          roots = All-by_recursion (λ p. root_of home.value ≡ p.root) passes (AllByRecursion-weaker (λ p. p.root ≡ start.root) (λ p. root_of home.value ≡ p.root) (λ p e. home.root_is ∙ sym e) passes (g.roots start f.starts));
+          roots = All-by_recursion (λ p. HasRoot p (root_of home.value)) passes (subst (λ (r : R). AllByRecursion (λ (p : PassState E R). HasRoot p r) passes) (sym home.root_is) (g.roots start f.starts));
           begins = All-by_recursion (λ p. IsPrefix p.seen (history home.value)) passes (subst (λ l. AllByRecursion (λ (p : PassState E R). IsPrefix p.seen l) passes) (sym home.history_is) (g.seen k.log f.merged f.seen));
           made = subst (λ l. IsMadeOf l passes) (sym home.history_is) (IsPermutation-trans _ _ _ (IsPermutation-sym _ _ g.mine) entries);
         },

@@ -11,32 +11,35 @@ use Rattle.atomic_table.specs.Table.{Me}
 use Rattle.turn_lock.specs.declared.view.Start.{Start}
 use Rattle.turn_lock.specs.declared.view.View.{View}
 use Rattle.turn_lock.specs.Pass.{LockId, PassState}
-use Rattle.turn_lock.specs.View.{rejoined, shown, IsSeatOf}
+use Rattle.turn_lock.specs.View.{first_root, rejoined, shown, IsSeatOf}
 use Rattle.turn_lock.specs.Gather.{Gathers}
 use Rattle.turn_lock.proofs.Seats.{AllByRecursion-parts}
 use Rattle.turn_lock.proofs.Shares.{IsPermutation-turned}
 
-module _ {V E R : Type 0} (lock : LockId) (number : ℕ) (start : Start R) (me : Me (Option V) (View E R)) where
+root_told : {R : Type 0} (s : Start R) (starts : List (Start R)) (start : Start R) → starts ≡ start ∷ [] → AllByRecursion (λ x. x ≡ s) starts → first_root starts ≡ Some s.root
+root_told s starts start is all = ap first_root is ∙ ap (λ (x : Start _). Some x.root) (subst (AllByRecursion (λ x. x ≡ s)) is all).0
+
+module _ {V E R : Type 0} (lock : LockId) (number passes_of : ℕ) (me : Me (Option V) (View E R)) where
   -- the pass whose seat this is
   abbrev pub its_pass : PassState E R
-  its_pass = shown lock number start.root me.0
+  its_pass = shown lock number me.0
 
-  pub gathers_one : IsSeatOf number start me → me.0.holds ≡ false → Gathers me.0 (its_pass ∷ [])
+  pub gathers_one : IsSeatOf number passes_of me → me.0.holds ≡ false → Gathers me.0 (its_pass ∷ [])
   gathers_one its idle = record {
     idle = idle;
     numbers = subst (λ l. IsPermutation l (number ∷ [])) (sym its.numbered) (IsPermutation-refl (number ∷ []));
     mine = subst (IsPermutation me.0.mine) (sym (append-nil me.0.mine)) (IsPermutation-refl me.0.mine);
-    roots = λ s all. (ap (λ (x : Start R). x.root) (subst (AllByRecursion (λ x. x ≡ s)) its.started all).0, tt);
+    roots = λ s all. (root_told s me.0.starts its.start its.started all, tt);
     seen = λ log merged seen. (seen, tt);
   }
 
-  pub gathers_more : (v : View E R) (passes : List (PassState E R)) → Gathers v passes → IsSeatOf number start me → Gathers (rejoined v me.0) (its_pass ∷ passes)
+  pub gathers_more : (v : View E R) (passes : List (PassState E R)) → Gathers v passes → IsSeatOf number passes_of me → Gathers (rejoined v me.0) (its_pass ∷ passes)
   gathers_more v passes g its = record {
     idle = g.idle;
     numbers = subst (λ l. IsPermutation (v.numbers ++ l) (number ∷ map (λ (p : PassState E R). p.number) passes)) (sym its.numbered) (IsPermutation-turned v.numbers (number ∷ []) _ g.numbers);
     mine = IsPermutation-turned v.mine me.0.mine _ g.mine;
     roots = λ s all. let parts = AllByRecursion-parts (λ x. x ≡ s) v.starts me.0.starts all in
-        (ap (λ (x : Start R). x.root) (subst (AllByRecursion (λ x. x ≡ s)) its.started parts.1).0, g.roots s parts.0);
+        (root_told s me.0.starts its.start its.started parts.1, g.roots s parts.0);
     seen = λ log merged seen.
         let parts = AllByRecursion-parts (λ x. IsPrefix x log) (v.merged ++ me.0.merged) (v.seen ∷ me.0.seen ∷ []) merged in
         let before = AllByRecursion-parts (λ x. IsPrefix x log) v.merged me.0.merged parts.0 in

@@ -2,7 +2,8 @@
 use Rattle.std.proofs.Common.{◌≡◌, ◌≢◌, ◌⊎◌, ℕ, ◌+◌, List, [], ◌∷◌, ◌++◌, Option, Some, true, length, refl, ap, sym, subst, ◌∙◌, inl, inr, arith, length-append}
 use Rattle.atomic_table.specs.Table.{Me}
 use Rattle.turn_lock.specs.declared.view.View.{View}
-use Rattle.turn_lock.specs.View.{entered}
+use Rattle.turn_lock.specs.declared.view.Start.{Start}
+use Rattle.turn_lock.specs.View.{first_root, entered}
 
 module _ {E : Type 0} where
   abbrev pub MayGive : List E → List E → Type 0
@@ -20,6 +21,10 @@ module _ {E : Type 0} where
   pub one_added : (seen log : List E) → MayGive seen log → length log ≢ length seen → (entry : E) × (log ≡ seen ++ entry ∷ [])
   one_added seen log (inl same) n = absurd (n (ap length same))
   one_added seen log (inr more) n = more
+
+-- a value has the root that the pass was told
+pub root_kept : {R : Type 0} (starts : List (Start R)) (start : Start R) (root : R) → starts ≡ start ∷ [] → first_root starts ≡ Some root → root ≡ start.root
+root_kept starts start root is e = let same : Some root ≡ Some start.root = sym e ∙ ap first_root is in cc
 
 -- the holder's seat before, and after the value x was laid into its slot
 pub record IsBack {V E R : Type 0} (history : V → List E) (before after : Me (Option V) (View E R)) (x : V) : Type 0 where

@@ -56,9 +56,9 @@ module _ {X A : Type 0} (f : X → List A) where
       → IsPermutation (flat_map f (set (set l i both) j none-left)) (flat_map f l)
   flat_map-set_moved l i j v w b z at n at' is empty =
       subst (λ m. IsPermutation (flat_map f m) (flat_map f l)) (sym (set-set_comm l i j b z n))
-          (IsPermutation-trans _ _ _
-              (flat_map-set_more (set l j z) i v b (f w) (set_else l j i z (λ e. n (sym e)) ∙ at) is)
-              (IsPermutation-sym _ _ (flat_map-set_none l j w z at' empty)))
+      (IsPermutation-trans _ _ _
+      (flat_map-set_more (set l j z) i v b (f w) (set_else l j i z (λ e. n (sym e)) ∙ at) is)
+      (IsPermutation-sym _ _ (flat_map-set_none l j w z at' empty)))
 
   pub flat_map-snoc_none : (l : List X) (v : X) → f v ≡ [] → flat_map f (l ++ v ∷ []) ≡ flat_map f l
   flat_map-snoc_none [] v e = ap (λ m. m ++ []) e

@@ -126,10 +126,9 @@ module _ {V E R : Type 0} (history : V → List E) (root_of : V → R) (start : 
   takes_alone slots id number v idle is s k size at _ =
       exchanged (get_or s.words 0 0) 0 (number + 1) (Goes s 0 id (v, []) (took history root_of (step slots 0 0 (number + 1) none) (v, [])))
       (λ zero_found.
-        let free : k.turn ≡ 0 = sym (word0 history root_of start s k) ∙ zero_found in
-        let home = k.free free in
-        let f = k.fits id v at in
-        (
+      let free : k.turn ≡ 0 = sym (word0 history root_of start s k) ∙ zero_found in
+      let home = k.free free in
+      let f = k.fits id v at in (
         holding v (history home.value),
         takes 0 (Some home.value),
         home.at_home,
@@ -137,26 +136,28 @@ module _ {V E R : Type 0} (history : V → List E) (root_of : V → R) (start : 
         ((λ _. (home.value, refl, subst (IsPrefix v.seen) (sym home.history_is) f.seen, AllByRecursion-weaker (λ x. x ≡ start) (λ x. root_of home.value ≡ x.root) (λ x e. home.root_is ∙ ap (λ (y : Start R). y.root) (sym e)) v.starts f.starts)), λ ne. absurd (ne zero_found)),
       ))
       (λ other.
-        let busy : k.turn ≢ 0 = λ e. other (word0 history root_of start s k ∙ e) in
-        let t = k.taken busy in
-        let holder = own t.1.numbers in
-        let found : get_or s.words 0 0 ≡ holder + 1 = word0 history root_of start s k ∙ (k.fits t.0 t.1 t.2).turn_is t.3 in
-        let has = holder_has history root_of start s k t.0 t.1 t.2 t.3 in
-        let low : holder < k.drawn = is_drawn history root_of start s k t.0 t.1 holder t.2 has in
-        (
+      let busy : k.turn ≢ 0 = λ e. other (word0 history root_of start s k ∙ e) in
+      let t = k.taken busy in
+      let holder = own t.1.numbers in
+      let found : get_or s.words 0 0 ≡ holder + 1 = word0 history root_of start s k ∙ (k.fits t.0 t.1 t.2).turn_is t.3 in
+      let has = holder_has history root_of start s k t.0 t.1 t.2 t.3 in
+      let low : holder < k.drawn = is_drawn history root_of start s k t.0 t.1 holder t.2 has in (
         lost_to v holder,
         keeps,
         tt,
         loses s k id v holder at,
-        ((λ e. absurd (other e)), λ _. (
-          holder,
-          found,
-          refl,
-          (λ same. not_holder history root_of start s id t.0 v t.1 at t.2 idle t.3
-              (apart history root_of start s k t.0 id t.1 v holder t.2 at has (subst (λ (x : ℕ). 1 ≤ times x v.numbers) (sym same) (times-own v.numbers (λ e. no_cons number [] (sym is ∙ e)))))),
-          omega (arith, k.few.0, k.few.1),
-          AllByRecursion-weaker (λ x. x ≡ start) (λ x. holder < x.passes) (λ x e. omega (arith, ap (λ (y : Start R). y.passes) e, k.few.0)) v.starts (k.fits id v at).starts,
-        )),
+        (
+          (λ e. absurd (other e)),
+          λ _. (
+            holder,
+            found,
+            refl,
+            (λ same. not_holder history root_of start s id t.0 v t.1 at t.2 idle t.3
+                (apart history root_of start s k t.0 id t.1 v holder t.2 at has (subst (λ (x : ℕ). 1 ≤ times x v.numbers) (sym same) (times-own v.numbers (λ e. no_cons number [] (sym is ∙ e)))))),
+            omega (arith, k.few.0, k.few.1),
+            AllByRecursion-weaker (λ x. x ≡ start) (λ x. holder < x.passes) (λ x e. omega (arith, ap (λ (y : Start R). y.passes) e, k.few.0)) v.starts (k.fits id v at).starts,
+          ),
+        ),
       ))
 
   pub takes_turn : (slots id number : ℕ) (m : Sat) → m.0.holds ≡ false → m.0.numbers ≡ number ∷ [] → m.1 ≡ []
@@ -203,23 +204,22 @@ module _ {V E R : Type 0} (history : V → List E) (root_of : V → R) (start : 
         numbers = same_numbers s k id v w at refl;
         entries = subst (IsPermutation _) (ap (λ l. enumerate_from 0 k.log ++ (length l, e) ∷ []) (f.seen_all holds) ∙ sym (enumerate_from-snoc 0 k.log e ∙ ap (λ (n : ℕ). enumerate_from 0 k.log ++ (n, e) ∷ []) (let z : 0 + length k.log ≡ length k.log = omega arith in z)))
             (IsPermutation-trans _ _ _
-                (flat_map-set_more (λ (u : View E R). u.mine) s.views id v w ((length v.seen, e) ∷ []) at refl)
-                (Rattle.std.proofs.lemmas.List.Sorted.IsPermutation-append_left ((length v.seen, e) ∷ []) _ _ k.entries));
+            (flat_map-set_more (λ (u : View E R). u.mine) s.views id v w ((length v.seen, e) ∷ []) at refl)
+            (Rattle.std.proofs.lemmas.List.Sorted.IsPermutation-append_left ((length v.seen, e) ∷ []) _ _ k.entries));
       }
 
   adds_here : (slots id n : ℕ) (v : View E R) (x : V) (e : E) → v.holds ≡ true → history x ≡ v.seen ++ e ∷ [] → n ≡ length (history x)
       → Allows K slots id (v, (0, Some x) ∷ []) 1 (λ _. n) (λ _. added history root_of (step slots 1 n 0 none) (v, (0, Some x) ∷ []) n)
   adds_here slots id n v x e holds more long s k size at _ =
-      let long' : length v.seen + 1 ≡ n = omega (arith, ap length more, length-append v.seen (e ∷ [])) in
-      (
+      let long' : length v.seen + 1 ≡ n = omega (arith, ap length more, length-append v.seen (e ∷ [])) in (
         entered v e,
         keeps,
         tt,
         subst (λ (y : ℕ). K (stepped s 1 y id ((0, Some x) ∷ []) (entered v e) keeps)) long' (grows s k id v ((0, Some x) ∷ []) e at holds),
         (λ x' e' has' more'.
-          let same : x ≡ x' = one_value x x' has' in
-          let last : e ≡ e' = (same_from_push v.seen v.seen e e' (sym more ∙ ap history same ∙ more')).1 in
-          ap (λ (y : E). (entered v y, (0, Some x) ∷ [])) last),
+            let same : x ≡ x' = one_value x x' has' in
+            let last : e ≡ e' = (same_from_push v.seen v.seen e e' (sym more ∙ ap history same ∙ more')).1 in
+            ap (λ (y : E). (entered v y, (0, Some x) ∷ [])) last),
       )
     where
       one_value : (x x' : V) → ◌≡◌ {A = List (ℕ × Option V)} ((0, Some x) ∷ []) ((0, Some x') ∷ []) → x ≡ x'
@@ -318,8 +318,8 @@ module _ {V E R : Type 0} (history : V → List E) (root_of : V → R) (start : 
             record { seen = f.seen; merged = f.merged; starts = f.starts; turn_is = λ h. absurd (off (sym idle ∙ h)); seen_all = λ h. absurd (off (sym idle ∙ h)); no_number = λ z. absurd (no_cons k.drawn [] z) };
         numbers = subst (IsPermutation _) (sym (range_with_len-snoc 0 k.drawn ∙ ap (λ (n : ℕ). range_with_len 0 k.drawn ++ n ∷ []) (let z : 0 + k.drawn ≡ k.drawn = omega arith in z)))
             (IsPermutation-trans _ _ _
-                (flat_map-set_more (λ (u : View E R). u.numbers) s.views id v w (k.drawn ∷ []) at (ap (λ l. l ++ k.drawn ∷ []) (sym none-yet)))
-                (Rattle.std.proofs.lemmas.List.Sorted.IsPermutation-append_left (k.drawn ∷ []) _ _ k.numbers));
+            (flat_map-set_more (λ (u : View E R). u.numbers) s.views id v w (k.drawn ∷ []) at (ap (λ l. l ++ k.drawn ∷ []) (sym none-yet)))
+            (Rattle.std.proofs.lemmas.List.Sorted.IsPermutation-append_left (k.drawn ∷ []) _ _ k.numbers));
         entries = same_entries s k id v w at refl;
       }
 
@@ -329,9 +329,9 @@ module _ {V E R : Type 0} (history : V → List E) (root_of : V → R) (start : 
       let v : View E R = fresh (began ∷ []) in
       exchanged (get_or s.words 2 0) n (n + 1) (Goes s 2 id (v, []) (drew history root_of (step slots 2 n (n + 1) none) (v, [])))
       (λ hit.
-        let found : k.drawn ≡ n = sym (word2 history root_of start s k) ∙ hit in
-        let low : k.drawn < start.passes = omega (arith, ap (λ (y : Start R). y.passes) ((k.fits id v at).starts.0)) in
-        (drawn_as v n, keeps, tt, subst (λ (y : ℕ). K (stepped s 2 (y + 1) id [] (drawn_as v y) keeps)) found (numbers_one s k id v [] at refl refl low), ((λ _. refl), λ ne. absurd (ne hit))))
+      let found : k.drawn ≡ n = sym (word2 history root_of start s k) ∙ hit in
+      let low : k.drawn < start.passes = omega (arith, ap (λ (y : Start R). y.passes) ((k.fits id v at).starts.0)) in
+      (drawn_as v n, keeps, tt, subst (λ (y : ℕ). K (stepped s 2 (y + 1) id [] (drawn_as v y) keeps)) found (numbers_one s k id v [] at refl refl low), ((λ _. refl), λ ne. absurd (ne hit))))
       (λ miss. (v, keeps, tt, still history root_of start s k 2 id v [] at, ((λ e. absurd (miss e)), λ _. refl)))
 
   pub draws : (slots id n : ℕ) (m : Sat) (began : Start R) → m ≡ (fresh (began ∷ []), []) → n < began.passes
@@ -361,14 +361,14 @@ module _ {V E R : Type 0} (history : V → List E) (root_of : V → R) (start : 
             );
         fits = fits_set history root_of start (set s.views id b) other (fresh []) k.log k.turn
             (λ j u _ e. fits_set history root_of start s.views id b k.log k.turn (λ i x _ e'. k.fits i x e')
-                record {
-                  seen = IsPrefix-longer k.log v.seen w.seen f.seen f'.seen;
-                  merged = AllByRecursion-append (λ x. IsPrefix x k.log) (v.merged ++ w.merged) (v.seen ∷ w.seen ∷ []) (AllByRecursion-append (λ x. IsPrefix x k.log) v.merged w.merged f.merged f'.merged) (f.seen, (f'.seen, tt));
-                  starts = AllByRecursion-append (λ x. x ≡ start) v.starts w.starts f.starts f'.starts;
-                  turn_is = λ h. absurd (off (sym idle ∙ h));
-                  seen_all = λ h. absurd (off (sym idle ∙ h));
-                  no_number = λ z. let none-here = both_none v.numbers w.numbers z in (ap (λ l. l ++ w.mine) (f.no_number none-here.0).0 ∙ (f'.no_number none-here.1).0, idle);
-                } j u e)
+            record {
+              seen = IsPrefix-longer k.log v.seen w.seen f.seen f'.seen;
+              merged = AllByRecursion-append (λ x. IsPrefix x k.log) (v.merged ++ w.merged) (v.seen ∷ w.seen ∷ []) (AllByRecursion-append (λ x. IsPrefix x k.log) v.merged w.merged f.merged f'.merged) (f.seen, (f'.seen, tt));
+              starts = AllByRecursion-append (λ x. x ≡ start) v.starts w.starts f.starts f'.starts;
+              turn_is = λ h. absurd (off (sym idle ∙ h));
+              seen_all = λ h. absurd (off (sym idle ∙ h));
+              no_number = λ z. let none-here = both_none v.numbers w.numbers z in (ap (λ l. l ++ w.mine) (f.no_number none-here.0).0 ∙ (f'.no_number none-here.1).0, idle);
+            } j u e)
             record {
               seen = IsPrefix-nil k.log;
               merged = tt;

@@ -1,5 +1,5 @@
 -- What contracts see of a lock and of its passes.
-use Rattle.std.specs.Prelude.{ℕ, List, [], Bool, false}
+use Rattle.std.specs.Prelude.{◌≡◌, ℕ, List, [], Option, Some, Bool, false}
 use Rattle.std.specs.List.{flat_map, enumerate_from}
 use Rattle.std.specs.List.Sorted.{IsPermutation}
 use Rattle.atomic_table.specs.Seated.{TableId}
@@ -13,7 +13,8 @@ pub record LockId : Type 0 where
 pub record PassState (E R : Type 0) : Type 0 where
   pub lock : LockId
   pub number : ℕ
-  pub root : R
+  -- the root of the value handed to `new`; no pass is without
+  pub root : Option R
   -- a beginning of the history
   pub seen : List E
   -- its own entries, each with its place in the history
@@ -25,7 +26,10 @@ pub record PassState (E R : Type 0) : Type 0 where
 
 -- a pass that has seen nothing yet
 abbrev pub new_pass : {E R : Type 0} → LockId → R → ℕ → PassState E R
-new_pass lock root number = record { lock = lock; number = number; root = root; seen = []; mine = []; holds = false; losses = [] }
+new_pass lock root number = record { lock = lock; number = number; root = Some root; seen = []; mine = []; holds = false; losses = [] }
+
+abbrev pub HasRoot : {E R : Type 0} → PassState E R → R → Type 0
+HasRoot pass root = pass.root ≡ Some root
 
 -- the history is made of just these passes' own entries, each once, at its place
 abbrev pub IsMadeOf : {E R : Type 0} → List E → List (PassState E R) → Type 0

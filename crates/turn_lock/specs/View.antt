@@ -1,5 +1,5 @@
 -- What a seat knows, and how its knowledge changes.
-use Rattle.std.specs.Prelude.{◌≡◌, ℕ, List, [], ◌∷◌, ◌++◌, length, Option, None, Bool, true, false, if◌then◌else◌, nat_le}
+use Rattle.std.specs.Prelude.{◌≡◌, ℕ, List, [], ◌∷◌, ◌++◌, length, Option, Some, None, Bool, true, false, if◌then◌else◌, nat_le}
 use Rattle.atomic_table.specs.Table.{Me}
 use Rattle.turn_lock.specs.declared.view.Opening.{Opening}
 use Rattle.turn_lock.specs.declared.view.Start.{Start}
@@ -17,6 +17,10 @@ own (x ∷ xs) = x
 
 abbrev pub longer : {E : Type 0} → List E → List E → List E
 longer xs ys = if nat_le (length ys) (length xs) then xs else ys
+
+abbrev pub first_root : {R : Type 0} → List (Start R) → Option R
+first_root [] = None
+first_root (start ∷ starts) = Some start.root
 
 module _ {E R : Type 0} where
   -- a seat with no number
@@ -49,16 +53,18 @@ module _ {E R : Type 0} where
   rejoined v w = record v { numbers = v.numbers ++ w.numbers; seen = longer v.seen w.seen; mine = v.mine ++ w.mine; merged = (v.merged ++ w.merged) ++ v.seen ∷ w.seen ∷ []; starts = v.starts ++ w.starts }
 
   -- what contracts see of the pass with this seat
-  abbrev pub shown : LockId → ℕ → R → View E R → PassState E R
-  shown lock number root v = record { lock = lock; number = number; root = root; seen = v.seen; mine = v.mine; holds = v.holds; losses = v.losses }
+  abbrev pub shown : LockId → ℕ → View E R → PassState E R
+  shown lock number v = record { lock = lock; number = number; root = first_root v.starts; seen = v.seen; mine = v.mine; holds = v.holds; losses = v.losses }
 
 -- the slot that a pass has out while it holds the turn, which is empty, since the value was taken from it
 abbrev pub carried_if : {V : Type 0} → Bool → List (ℕ × Option V)
 carried_if true = (0, None) ∷ []
 carried_if false = []
 
--- the seat of the pass with this number
-pub record IsSeatOf {V E R : Type 0} (number : ℕ) (start : Start R) (me : Me (Option V) (View E R)) : Type 0 where
+-- the seat of the pass with this number, of so many
+pub record IsSeatOf {V E R : Type 0} (number passes : ℕ) (me : Me (Option V) (View E R)) : Type 0 where
   pub numbered : me.0.numbers ≡ number ∷ []
+  pub start : Start R
   pub started : me.0.starts ≡ start ∷ []
+  pub counted : start.passes ≡ passes
   pub carries : me.1 ≡ carried_if me.0.holds

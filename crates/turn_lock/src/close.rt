@@ -1,7 +1,7 @@
 // The end of a lock.
 ghost use Rattle.std.specs.Prelude.{◌≡◌, ℕ, ◌<◌, [], false, map, All, Contains, vec_len};
 ghost use mathlib.Core.List.{IsPrefix};
-ghost use Rattle.turn_lock.specs.Pass.{IsMadeOf};
+ghost use Rattle.turn_lock.specs.Pass.{HasRoot, IsMadeOf};
 ghost use Rattle.turn_lock.specs.Gather.{Gathers};
 
 use crate::lock::TurnLock;
@@ -15,7 +15,7 @@ impl<V: StandsFor> TurnLock<V> {
         requires lock { All (λ p. p.lock ≡ self) passes.items }
         requires idle { All (λ p. p.holds ≡ false) passes.items }
         requires all { (n : ℕ) → n < self.passes → Contains (map (λ p. p.number) passes.items) n }
-        ensures root { All (λ p. V.root result ≡ p.root) passes.items }
+        ensures root { All (λ p. HasRoot p (V.root result)) passes.items }
         ensures begins { All (λ p. IsPrefix p.seen (V.history result)) passes.items }
         ensures made { IsMadeOf (V.history result) passes.items }
     {
@@ -43,14 +43,14 @@ fn gather<V: StandsFor>(shared: &SharedOf<V>, passes: Vec<Pass<V>>) -> SeatOf<V>
     };
     let Pass {
         number: _,
+        passes: _,
         mut seat,
-        opening: _,
     } = first;
     while let Some(pass) = passes.pop() {
         let Pass {
             number: _,
+            passes: _,
             seat: other,
-            opening: _,
         } = pass;
         shared.join_seat::<Rejoin>(&mut seat, other);
     }

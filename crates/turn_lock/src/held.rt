@@ -15,11 +15,14 @@ pub struct Held<V: StandsFor> {
 }
 
 impl<V: StandsFor> Model for Held<V> {
+    ghost use Rattle.std.specs.Prelude.{◌≡◌, true};
     ghost use Rattle.turn_lock.specs.Held.{HeldState};
 
     ghost Value = { HeldState V V.Entry V.Root };
 
     ghost view = { λ h. record { value = h.value; taker = h.taker.value } };
+
+    ghost invariant = { λ h. h.taker.value.holds ≡ true };
 }
 
 impl<V: StandsFor> Held<V> {

@@ -1,11 +1,14 @@
 ghost use Rattle.std.specs.Prelude.{◌≡◌, ◌≢◌, ◌⊎◌, ◌<◌, ◌++◌, ◌∷◌, [], true, false, None, Some, IfOk, IfErr, length};
 ghost use mathlib.Core.List.{IsPrefix};
+ghost use Rattle.turn_lock.specs.Pass.{HasRoot};
 ghost use Rattle.turn_lock.specs.View.{entered};
 
 use crate::held::Held;
 use crate::pass::Pass;
 use crate::stands_for::StandsFor;
-use crate::view::{Add, COUNT, Count, Give, Opening, SeatOf, SharedOf, TURN, Take, Turns, VALUE, View};
+use crate::view::{
+    Add, COUNT, Count, Give, Opening, SeatOf, SharedOf, TURN, Take, Turns, VALUE, View,
+};
 use atomic_table::Table;
 use std::alloc::Global;
 use std::marker::Model;
@@ -44,7 +47,7 @@ impl<V: StandsFor> TurnLock<V> {
         ensures taken { IfOk result (λ held. pass.new ≡ record pass.old { seen = V.history held.value; holds = true }) }
         ensures taker { IfOk result (λ held. held.taker ≡ pass.new) }
         ensures begins { IfOk result (λ held. IsPrefix pass.old.seen (V.history held.value)) }
-        ensures root { IfOk result (λ held. V.root held.value ≡ pass.old.root) }
+        ensures root { IfOk result (λ held. HasRoot pass.old (V.root held.value)) }
         ensures busy { IfErr result (λ busy. pass.new ≡ record pass.old { losses = pass.old.losses ++ busy.holder ∷ [] }) }
         ensures other { IfErr result (λ busy. (busy.holder ≢ pass.old.number) × (busy.holder < pass.old.lock.passes)) }
     {
@@ -74,9 +77,10 @@ impl<V: StandsFor> TurnLock<V> {
         requires lock { pass.old.lock ≡ self.now }
         requires idle { pass.old.holds ≡ false }
         ensures taken { pass.new ≡ record pass.old { seen = V.history result.value; holds = true; losses = pass.new.losses } }
+        ensures losses { IsPrefix pass.old.losses pass.new.losses }
         ensures taker { result.taker ≡ pass.new }
         ensures begins { IsPrefix pass.old.seen (V.history result.value) }
-        ensures root { V.root result.value ≡ pass.old.root }
+        ensures root { HasRoot pass.old (V.root result.value) }
     {
         for _ in rt.forever() {
             match self.try_turn(pass) {
@@ -93,8 +97,8 @@ impl<V: StandsFor> TurnLock<V> {
     /// Gives the turn back, with the value, to whose history the holder may have added one entry.
     pub fn give(&self, held: Held<V>, pass: &mut Pass<V>)
         requires lock { pass.old.lock ≡ self.now }
-        requires held { (held.taker ≡ pass.old) × (pass.old.holds ≡ true) }
-        requires root { V.root held.value ≡ pass.old.root }
+        requires held { held.taker ≡ pass.old }
+        requires root { HasRoot pass.old (V.root held.value) }
         requires history { (V.history held.value ≡ pass.old.seen) ⊎ ((entry : V.Entry) × (V.history held.value ≡ pass.old.seen ++ entry ∷ [])) }
         ensures same { V.history held.value ≡ pass.old.seen → pass.new ≡ record pass.old { holds = false } }
         ensures added { (entry : V.Entry) → V.history held.value ≡ pass.old.seen ++ entry ∷ [] → pass.new ≡ record pass.old { seen = V.history held.value; mine = pass.old.mine ++ (length pass.old.seen, entry) ∷ []; holds = false } }

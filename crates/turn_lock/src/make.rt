@@ -115,7 +115,7 @@ fn pass_of<V: StandsFor>(number: u32, seat: SeatOf<V>, opening: &Opening<V>) -> 
 {
     Pass {
         number,
+        passes: opening.passes,
         seat,
-        opening: Snapshot::of(opening),
     }
 }

@@ -1,24 +1,24 @@
 use crate::stands_for::StandsFor;
-use crate::view::{Opening, SeatOf};
+use crate::view::SeatOf;
 use std::marker::Model;
-use std::snapshot::Snapshot;
 
 /// The right to take turns at one lock. Contracts see its lock, its number, its root, how much of the history it has
 /// seen, its own entries, whether it holds the turn, and who held the turn at each take that it lost.
 #[derive(Drop)]
 pub struct Pass<V: StandsFor> {
     pub(crate) number: u32,
+    // How many passes the lock has.
+    pub(crate) passes: u32,
     pub(crate) seat: SeatOf<V>,
-    pub(crate) opening: Snapshot<Opening<V>>,
 }
 
 impl<V: StandsFor> Model for Pass<V> {
     ghost use Rattle.turn_lock.specs.Pass.{PassState};
-    ghost use Rattle.turn_lock.specs.View.{shown, start_of, IsSeatOf};
+    ghost use Rattle.turn_lock.specs.View.{shown, IsSeatOf};
 
     ghost Value = { PassState V.Entry V.Root };
 
-    ghost view = { λ p. shown (record { table = p.seat.table_id; passes = p.opening.value.passes }) p.number (V.root p.opening.value.value.value) p.seat.me.0 };
+    ghost view = { λ p. shown (record { table = p.seat.table_id; passes = p.passes }) p.number p.seat.me.0 };
 
-    ghost invariant = { λ p. IsSeatOf p.number (start_of V.root p.opening.value) p.seat.me };
+    ghost invariant = { λ p. IsSeatOf p.number p.passes p.seat.me };
 }

@@ -4,6 +4,7 @@ ghost use Rattle.std.specs.Prelude.{◌≡◌, List, length};
 /// history began. Contracts alone see both.
 pub trait StandsFor {
     type Entry;
+
     type Root;
 
     ghost history: { Self → List Self.Entry };

@@ -1,7 +1,7 @@
 use Rattle.std.proofs.Common.{◌≡◌, [], ◌∷◌, ◌++◌, false, ap, sym, ◌∙◌, subst, append_assoc}
 use Rattle.turn_lock.specs.Gather.{Gathers}
 use Rattle.turn_lock.specs.Pass.{LockId, PassState}
-use Rattle.turn_lock.specs.View.{carried_if, rejoined, start_of}
+use Rattle.turn_lock.specs.View.{carried_if, rejoined}
 use Rattle.turn_lock.proofs.Gathering.{gathers_one, gathers_more, popped}
 use Rattle.turn_lock.proofs.Steps.{rejoins}
 use Rattle.turn_lock.proofs.close.gather.Goals as goal
@@ -19,7 +19,7 @@ loop-pass-init g c =
       idle = last.left_idle;
       taken_in = c.in-Some.first ∷ [];
       parts = c.in-Some.ensures.items;
-      gathers = subst (λ p. Gathers s.me.0 (p ∷ [])) c.first.view_is (gathers_one _ c.first.inside.number (start_of g.V.StandsFor.root c.first.inside.opening.value) s.me c.first.invariant idle);
+      gathers = subst (λ p. Gathers s.me.0 (p ∷ [])) c.first.view_is (gathers_one _ c.first.inside.number c.first.inside.passes s.me c.first.invariant idle);
     }
 
 pub join_seat-requires : goal.join_seat-requires
@@ -28,8 +28,7 @@ join_seat-requires g c =
     let i = c.loop-pass.invariant in
     let lock : LockId = record { table = c.args.shared.now.table_id; passes = c.args.shared.now.key.passes } in
     let last = popped lock _ c.pop-in-loop-pass.new.self.items c.in-Some-pop.pass c.in-Some-pop.ensures.items i.of_lock i.idle in
-    let idle : s.me.0.holds ≡ false = ap (λ (p : PassState _ _). p.holds) c.pass.view_is ∙ last.idle in
-    (
+    let idle : s.me.0.holds ≡ false = ap (λ (p : PassState _ _). p.holds) c.pass.view_is ∙ last.idle in (
       i.at_table,
       ap (λ (p : PassState _ _). p.lock.table) c.pass.view_is ∙ ap (λ (l : LockId). l.table) last.of_lock,
       c.pass.invariant.carries ∙ ap carried_if idle,
@@ -55,5 +54,5 @@ loop-pass-preserved g c =
       parts = i.parts ∙ ap (λ l. l ++ i.taken_in) c.in-Some-pop.ensures.items ∙ append_assoc left (p ∷ []) i.taken_in;
       gathers = subst (λ m. Gathers m.0 (p ∷ i.taken_in)) (sym j.2)
           (subst (λ q. Gathers (rejoined c.loop-pass.seat.me.0 s.me.0) (q ∷ i.taken_in)) c.pass.view_is
-              (gathers_more _ c.pass.inside.number (start_of g.V.StandsFor.root c.pass.inside.opening.value) s.me c.loop-pass.seat.me.0 i.taken_in i.gathers c.pass.invariant));
+          (gathers_more _ c.pass.inside.number c.pass.inside.passes s.me c.loop-pass.seat.me.0 i.taken_in i.gathers c.pass.invariant));
     }

@@ -13,7 +13,7 @@ new-requires g c =
     let one = c.in_ok-push.ensures.items ∙ ap (λ xs. xs ++ Some c.args.value ∷ []) c.new-slots.ensures.items in
     let start = start_of g.V.StandsFor.root record { value = c.of.result; passes = c.args.passes } in
     subst (λ xs. Kept g.V.StandsFor.history g.V.StandsFor.root start (opening (0 ∷ 0 ∷ 1 ∷ []) xs (first_view start))) (sym one)
-        (starts g.V.StandsFor.history g.V.StandsFor.root start c.args.value c.requires.empty (ap g.V.StandsFor.root (sym c.of.ensures)) c.requires.some (omega arith))
+    (starts g.V.StandsFor.history g.V.StandsFor.root start c.args.value c.requires.empty (ap g.V.StandsFor.root (sym c.of.ensures)) c.requires.some (omega arith))
 
 pub returns-clause-passes : goal.returns-clause-passes
 returns-clause-passes g c =
