@@ -1,6 +1,6 @@
 -- What the last state tells the seat that has taken in all passes.
-use Rattle.std.proofs.Common.{◌≡◌, ◌≢◌, ℕ, ◌+◌, ◌<◌, ◌≤◌, List, [], ◌∷◌, length, map, Option, Some, None, false, refl, sym, ap, ◌∙◌, subst, arith, All, Contains}
-use Rattle.std.specs.List.{AllByRecursion, flat_map, enumerate_from}
+use Rattle.std.proofs.Common.{◌≡◌, ◌≢◌, ℕ, ◌<◌, ◌≤◌, List, [], ◌∷◌, length, map, Option, Some, sym, ◌∙◌, subst, arith, All, Contains}
+use Rattle.std.specs.List.{AllByRecursion, enumerate_from}
 use Rattle.std.specs.List.Sorted.{IsPermutation}
 use Rattle.std.proofs.lemmas.List.Elements.{All-nil, All-cons}
 use Rattle.std.proofs.lemmas.List.Sorted.{IsPermutation-sym, IsPermutation-trans, Contains-permutation}
@@ -17,7 +17,7 @@ use Rattle.turn_lock.specs.Gather.{Gathers}
 use Rattle.turn_lock.specs.View.{own}
 use Rattle.turn_lock.proofs.Counts.{times, times-Contains, nowhere}
 use Rattle.turn_lock.proofs.Shares.{flat_map-alone}
-use Rattle.turn_lock.proofs.Seats.{Table, Rule, AllByRecursion-weaker, apart, is_drawn, holder_has, not_holder}
+use Rattle.turn_lock.proofs.Seats.{Rule, apart, is_drawn, holder_has, not_holder}
 
 pub All-by_recursion : {A : Type 0} (P : A → Type 0) (xs : List A) → AllByRecursion P xs → All P xs
 All-by_recursion P [] h = All-nil P

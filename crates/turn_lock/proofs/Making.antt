@@ -2,12 +2,12 @@
 use Rattle.std.proofs.Common.{◌≡◌, ℕ, ◌+◌, ◌-◌, ◌≤◌, List, [], ◌∷◌, ◌++◌, map, ap, sym, ◌∙◌, suc, arith}
 use Rattle.std.specs.List.{range_with_len}
 use Rattle.atomic_table.specs.Seated.{TableId}
-use Rattle.turn_lock.specs.Pass.{LockId, PassState, new_pass}
+use Rattle.turn_lock.specs.Pass.{PassState, lock_id, new_pass}
 use Rattle.std.proofs.lemmas.List.FromFn.{map-range_with_len_more}
 
 pub new_pass-same : {E R : Type 0} (table table' : TableId) (passes passes' : ℕ) (root root' : R) → table ≡ table' → passes ≡ passes' → root ≡ root'
-    → ◌≡◌ {A = ℕ → PassState E R} (new_pass (record { table = table; passes = passes }) root) (new_pass (record { table = table'; passes = passes' }) root')
-new_pass-same table table' passes passes' root root' t p r = λ i. new_pass (record { table = t i; passes = p i }) (r i)
+    → ◌≡◌ {A = ℕ → PassState E R} (new_pass (lock_id table passes) root) (new_pass (lock_id table' passes') root')
+new_pass-same table table' passes passes' root root' t p r = λ i. new_pass (lock_id (t i) (p i)) (r i)
 
 module _ {A : Type 0} (f : ℕ → A) where
   -- one more, whose number comes next

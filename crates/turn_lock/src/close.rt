@@ -1,7 +1,7 @@
 // The end of a lock.
 ghost use Rattle.std.specs.Prelude.{◌≡◌, ℕ, ◌<◌, [], false, map, All, Contains, vec_len};
 ghost use mathlib.Core.List.{IsPrefix};
-ghost use Rattle.turn_lock.specs.Pass.{HasRoot, IsMadeOf};
+ghost use Rattle.turn_lock.specs.Pass.{HasRoot, IsMadeOf, lock_id};
 ghost use Rattle.turn_lock.specs.Gather.{Gathers};
 
 use crate::lock::TurnLock;
@@ -32,7 +32,8 @@ impl<V: StandsFor> TurnLock<V> {
 fn gather<V: StandsFor>(shared: &SharedOf<V>, passes: Vec<Pass<V>>) -> SeatOf<V>
     requires table { 0 < shared.now.table_id.words }
     requires some { 0 < vec_len passes }
-    requires lock { All (λ p. p.lock ≡ record { table = shared.now.table_id; passes = shared.now.key.passes }) passes.items }
+    requires lock { let lock = lock_id shared.now.table_id shared.now.key.passes in
+        All (λ p. p.lock ≡ lock) passes.items }
     requires idle { All (λ p. p.holds ≡ false) passes.items }
     ensures seat { (result.table_id ≡ shared.now.table_id) × (result.me.1 ≡ []) }
     ensures all { Gathers result.me.0 passes.items }

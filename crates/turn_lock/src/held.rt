@@ -35,7 +35,8 @@ impl<V: StandsFor> Held<V> {
 
     /// The value, to be changed. Once the borrow is over, `self` has what was written through it.
     pub fn value_mut(&mut self) -> &mut V
-        ensures* writes_back { sem 𝓛 (Lends (the_row V.row V.Entry.row V.Root.row V.StandsFor) V.row self.entry result (λ w. record self.old { value = w })) }
+        ensures* writes_back { let row = the_row V.row V.Entry.row V.Root.row V.StandsFor in
+            sem 𝓛 (Lends row V.row self.entry result (λ w. record self.old { value = w })) }
         ensures value { result.now ≡ self.old.value }
     {
         &mut self.value

@@ -1,7 +1,7 @@
 // The start of a lock.
 ghost use Rattle.std.specs.Prelude.{◌≡◌, ◌+◌, ◌-◌, ◌<◌, ◌≤◌, [], ◌∷◌, IfOk, map};
 ghost use Rattle.std.specs.List.{range_with_len};
-ghost use Rattle.turn_lock.specs.Pass.{new_pass};
+ghost use Rattle.turn_lock.specs.Pass.{lock_id, new_pass};
 ghost use Rattle.turn_lock.specs.View.{start_of, fresh, first_view, drawn_as};
 
 use crate::lock::TurnLock;
@@ -10,12 +10,22 @@ use crate::stands_for::StandsFor;
 use crate::view::{DRAWN, Draw, Newcomer, Opening, SeatOf, SharedOf};
 use atomic_table::{Refused, Table};
 use std::alloc::{AllocError, AllocFailed, Global};
+use std::error::Error;
+use std::fmt;
 use std::snapshot::Snapshot;
 use std::sync::Wait;
 
 /// There was no memory.
 #[derive(Clone, Copy, Debug, PartialEq, Eq)]
 pub struct NoMemory;
+
+impl fmt::Display for NoMemory {
+    fn fmt<W: fmt::Write>(&self, f: &mut fmt::Formatter<W>) -> fmt::Result {
+        f.write_str("out of memory")
+    }
+}
+
+impl Error for NoMemory {}
 
 impl From<AllocError> for NoMemory {
     fn from(_: AllocError) -> NoMemory {
@@ -43,7 +53,8 @@ impl<V: StandsFor> TurnLock<V> {
         requires empty { V.history value ≡ [] }
         requires some { 1 ≤ passes }
         ensures lock { IfOk result (λ made. made.0.passes ≡ passes) }
-        ensures passes { IfOk result (λ made. made.1.items ≡ map (new_pass made.0 (V.root value)) (range_with_len 0 passes)) }
+        ensures passes { let numbers = range_with_len 0 passes in
+            IfOk result (λ made. made.1.items ≡ map (new_pass made.0 (V.root value)) numbers) }
     {
         let opening = Opening {
             value: Snapshot::of(&value),
@@ -75,7 +86,9 @@ fn others<V: StandsFor, R: Wait>(
     requires started { first.old.me.0.starts ≡ start_of V.root opening.now ∷ [] }
     requires some { 1 ≤ opening.now.passes }
     ensures first { (first.new.table_id ≡ first.old.table_id) × (first.new.me ≡ first.old.me) }
-    ensures passes { IfOk result (λ rest. rest.items ≡ map (new_pass (record { table = shared.now.table_id; passes = opening.now.passes }) (V.root opening.now.value.value)) (range_with_len 1 (opening.now.passes - 1))) }
+    ensures passes { let lock = lock_id shared.now.table_id opening.now.passes in
+        let numbers = range_with_len 1 (opening.now.passes - 1) in
+        IfOk result (λ rest. rest.items ≡ map (new_pass lock (V.root opening.now.value.value)) numbers) }
 {
     let mut list = Vec::new(alloc);
     for number in 1..opening.passes {
@@ -97,7 +110,8 @@ fn draw<V: StandsFor, R: Wait>(
     requires started { first.old.me.0.starts ≡ start_of V.root opening.now ∷ [] }
     requires below { number < opening.now.passes }
     ensures first { (first.new.table_id ≡ first.old.table_id) × (first.new.me ≡ first.old.me) }
-    ensures seat { (result.table_id ≡ shared.now.table_id) × (result.me ≡ (drawn_as (fresh first.old.me.0.starts) number, [])) }
+    ensures table { result.table_id ≡ shared.now.table_id }
+    ensures seat { result.me ≡ (drawn_as (fresh first.old.me.0.starts) number, []) }
 {
     let mut seat = shared.split_seat::<Newcomer>(first);
     let old = number as u64;
@@ -111,7 +125,8 @@ fn draw<V: StandsFor, R: Wait>(
 
 fn pass_of<V: StandsFor>(number: u32, seat: SeatOf<V>, opening: &Opening<V>) -> Pass<V>
     requires { seat.me ≡ (drawn_as (fresh (start_of V.root opening.now ∷ [])) number, []) }
-    ensures { result ≡ new_pass (record { table = seat.table_id; passes = opening.now.passes }) (V.root opening.now.value.value) number }
+    ensures { let lock = lock_id seat.table_id opening.now.passes in
+        result ≡ new_pass lock (V.root opening.now.value.value) number }
 {
     Pass {
         number,

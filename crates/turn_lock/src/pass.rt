@@ -13,12 +13,12 @@ pub struct Pass<V: StandsFor> {
 }
 
 impl<V: StandsFor> Model for Pass<V> {
-    ghost use Rattle.turn_lock.specs.Pass.{PassState};
+    ghost use Rattle.turn_lock.specs.Pass.{PassState, lock_id};
     ghost use Rattle.turn_lock.specs.View.{shown, IsSeatOf};
 
     ghost Value = { PassState V.Entry V.Root };
 
-    ghost view = { λ p. shown (record { table = p.seat.table_id; passes = p.passes }) p.number p.seat.me.0 };
+    ghost view = { λ p. shown (lock_id p.seat.table_id p.passes) p.number p.seat.me.0 };
 
     ghost invariant = { λ p. IsSeatOf p.number p.passes p.seat.me };
 }

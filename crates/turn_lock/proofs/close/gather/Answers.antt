@@ -1,6 +1,6 @@
 use Rattle.std.proofs.Common.{◌≡◌, [], ◌∷◌, ◌++◌, false, ap, sym, ◌∙◌, subst, append_assoc}
 use Rattle.turn_lock.specs.Gather.{Gathers}
-use Rattle.turn_lock.specs.Pass.{LockId, PassState}
+use Rattle.turn_lock.specs.Pass.{LockId, PassState, lock_id}
 use Rattle.turn_lock.specs.View.{carried_if, rejoined}
 use Rattle.turn_lock.proofs.Gathering.{gathers_one, gathers_more, popped}
 use Rattle.turn_lock.proofs.Steps.{rejoins}
@@ -9,7 +9,7 @@ use Rattle.turn_lock.proofs.close.gather.Goals as goal
 pub loop-pass-init : goal.loop-pass-init
 loop-pass-init g c =
     let s = c.first.inside.seat in
-    let lock : LockId = record { table = c.args.shared.now.table_id; passes = c.args.shared.now.key.passes } in
+    let lock : LockId = lock_id c.args.shared.now.table_id c.args.shared.now.key.passes in
     let last = popped lock _ c.pop.new.self.items c.in-Some.first c.in-Some.ensures.items c.requires.lock c.requires.idle in
     let idle : s.me.0.holds ≡ false = ap (λ (p : PassState _ _). p.holds) c.first.view_is ∙ last.idle in
     record {
@@ -26,7 +26,7 @@ pub join_seat-requires : goal.join_seat-requires
 join_seat-requires g c =
     let s = c.pass.inside.seat in
     let i = c.loop-pass.invariant in
-    let lock : LockId = record { table = c.args.shared.now.table_id; passes = c.args.shared.now.key.passes } in
+    let lock : LockId = lock_id c.args.shared.now.table_id c.args.shared.now.key.passes in
     let last = popped lock _ c.pop-in-loop-pass.new.self.items c.in-Some-pop.pass c.in-Some-pop.ensures.items i.of_lock i.idle in
     let idle : s.me.0.holds ≡ false = ap (λ (p : PassState _ _). p.holds) c.pass.view_is ∙ last.idle in (
       i.at_table,
@@ -43,7 +43,7 @@ loop-pass-preserved g c =
     let j = c.join_seat.ensures in
     let p = c.in-Some-pop.pass in
     let left = c.pop-in-loop-pass.new.self.items in
-    let lock : LockId = record { table = c.args.shared.now.table_id; passes = c.args.shared.now.key.passes } in
+    let lock : LockId = lock_id c.args.shared.now.table_id c.args.shared.now.key.passes in
     let last = popped lock _ left p c.in-Some-pop.ensures.items i.of_lock i.idle in
     record {
       at_table = j.0 ∙ i.at_table;

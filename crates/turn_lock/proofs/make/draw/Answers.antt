@@ -1,4 +1,4 @@
-use Rattle.std.proofs.Common.{rules, ◌≡◌, ℕ, [], Some, sym, ap, ◌∙◌, arith}
+use Rattle.std.proofs.Common.{[], ap, ◌∙◌, arith}
 use Rattle.turn_lock.specs.View.{fresh}
 use Rattle.turn_lock.proofs.Steps.{splits, draws}
 use Rattle.turn_lock.proofs.make.draw.Goals as goal

@@ -1,6 +1,4 @@
-use Rattle.std.proofs.Common.{◌≡◌, ℕ, ◌-◌, map, ap, ◌∙◌, refl, arith}
-use Rattle.std.specs.List.{range_with_len}
-use Rattle.turn_lock.specs.Pass.{new_pass}
+use Rattle.std.proofs.Common.{◌≡◌, ◌-◌, ap, ◌∙◌, refl, arith}
 use Rattle.turn_lock.proofs.Making.{new_pass-same, one_more}
 use Rattle.turn_lock.proofs.make.others.Goals as goal
 
@@ -8,7 +6,7 @@ pub loop-number-preserved : goal.loop-number-preserved
 loop-number-preserved g c =
     let i = c.loop-number.invariant in
     let d = c.draw-seat.ensures in
-    let same = new_pass-same _ _ c.args.opening.now.passes _ (g.V.StandsFor.root c.args.opening.now.value.value) _ d.seat.0 refl refl in
+    let same = new_pass-same _ _ c.args.opening.now.passes _ (g.V.StandsFor.root c.args.opening.now.value.value) _ d.table refl refl in
     let pass_is = c.pass_of.ensures ∙ ap (λ f. f c.loop-number.number) same in (
       d.first.0 ∙ i.0,
       d.first.1 ∙ i.1,

@@ -1,5 +1,5 @@
 use Rattle.std.proofs.Common.{◌≡◌, ℕ, zero, suc, ◌+◌, ◌<◌, [], ◌∷◌, ◌++◌, List, map, Contains, sym, ap, ◌∙◌, subst, arith}
-use Rattle.turn_lock.specs.Pass.{LockId, PassState}
+use Rattle.turn_lock.specs.Pass.{PassState}
 use Rattle.turn_lock.proofs.tests.close_both.Goals as goal
 
 -- of these two, each number below 2

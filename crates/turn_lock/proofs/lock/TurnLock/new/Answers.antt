@@ -1,4 +1,4 @@
-use Rattle.std.proofs.Common.{rules, ◌≡◌, ℕ, [], ◌∷◌, ◌++◌, Some, sym, ap, ◌∙◌, subst, map, arith, refl, ◌-◌}
+use Rattle.std.proofs.Common.{[], ◌∷◌, ◌++◌, Some, sym, ap, ◌∙◌, subst, map, arith, refl, ◌-◌}
 use Rattle.atomic_table.specs.Table.{opening}
 use Rattle.turn_lock.specs.Rule.{Kept}
 use Rattle.turn_lock.specs.View.{first_view, start_of}
