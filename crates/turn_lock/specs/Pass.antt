@@ -9,6 +9,7 @@ pub record LockId : Type 0 where
   pub table : TableId
   pub passes : ℕ
 
+-- the lock with this table, made with so many passes
 abbrev pub lock_id : TableId → ℕ → LockId
 lock_id table passes = record { table = table; passes = passes }
 

@@ -42,25 +42,37 @@ module _ {V E R : Type 0} (history : V → List E) (root_of : V → R) where
     -- each entry of the history is in one view, once, with its place, and no other is
     pub entries : IsPermutation (flat_map (λ v. v.mine) s.views) (enumerate_from 0 log)
 
-  abbrev pub Sat : Type 0
-  Sat = Me (Option V) (View E R)
+  -- a seat's view, and the slots that it has out
+  abbrev pub SeatState : Type 0
+  SeatState = Me (Option V) (View E R)
 
-  -- a take found the turn free, and has the value; or it was lost to another pass
-  abbrev pub took : Step (Option V) → Sat → ℕ → Sat → Type 0
-  took st m r n =
-      (r ≡ 0 → (v : V) × (n ≡ (holding m.0 (history v), (0, Some v) ∷ m.1)) × IsPrefix m.0.seen (history v) × AllByRecursion (λ x. root_of v ≡ x.root) m.0.starts)
-      × (r ≢ 0 → (h : ℕ) × (r ≡ h + 1) × (n ≡ (lost_to m.0 h, m.1)) × (h ≢ own m.0.numbers) × (h < 2 ^ 32) × AllByRecursion (λ x. h < x.passes) m.0.starts)
+  -- a take that found the turn free has the value; another was lost to the pass that holds the turn
+  abbrev pub took : Step (Option V) → SeatState → ℕ → SeatState → Type 0
+  took step before found after =
+      (found ≡ 0 → (value : V)
+      × (after ≡ (holding before.0 (history value), (0, Some value) ∷ before.1))
+      × IsPrefix before.0.seen (history value)
+      × AllByRecursion (λ start. root_of value ≡ start.root) before.0.starts)
+      × (found ≢ 0 → (holder : ℕ)
+      × (found ≡ holder + 1)
+      × (after ≡ (lost_to before.0 holder, before.1))
+      × (holder ≢ own before.0.numbers)
+      × (holder < 2 ^ 32)
+      × AllByRecursion (λ start. holder < start.passes) before.0.starts)
 
   -- a holder's count is the length of what it has seen
-  abbrev pub counted : Step (Option V) → Sat → ℕ → Sat → Type 0
-  counted st m r n = (n ≡ m) × (r ≡ length m.0.seen)
+  abbrev pub counted : Step (Option V) → SeatState → ℕ → SeatState → Type 0
+  counted step before found after = (after ≡ before) × (found ≡ length before.0.seen)
 
-  -- the value lies in the slot that the holder has out by then
-  abbrev pub added : Step (Option V) → Sat → ℕ → Sat → Type 0
-  added st m r n = (v : V) (e : E) → m.1 ≡ (0, Some v) ∷ rest m.1 → history v ≡ m.0.seen ++ e ∷ [] → n ≡ (entered m.0 e, m.1)
+  -- the holder adds the entry by which the value, which it has out, goes on
+  abbrev pub added : Step (Option V) → SeatState → ℕ → SeatState → Type 0
+  added step before stored after = (value : V) (entry : E) → before.1 ≡ (0, Some value) ∷ rest before.1
+      → history value ≡ before.0.seen ++ entry ∷ [] → after ≡ (entered before.0 entry, before.1)
 
-  abbrev pub gave : Step (Option V) → Sat → ℕ → Sat → Type 0
-  gave st m r n = n ≡ (given m.0, rest m.1)
+  -- the holder gives the turn back, and with it the slot that it has out
+  abbrev pub gave : Step (Option V) → SeatState → ℕ → SeatState → Type 0
+  gave step before stored after = after ≡ (given before.0, rest before.1)
 
-  abbrev pub drew : Step (Option V) → Sat → ℕ → Sat → Type 0
-  drew st m r n = (r ≡ st.first → n ≡ (drawn_as m.0 st.first, m.1)) × (r ≢ st.first → n ≡ m)
+  -- a draw that found the number that it asked for has it
+  abbrev pub drew : Step (Option V) → SeatState → ℕ → SeatState → Type 0
+  drew step before found after = (found ≡ step.first → after ≡ (drawn_as before.0 step.first, before.1)) × (found ≢ step.first → after ≡ before)

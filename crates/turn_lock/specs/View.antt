@@ -15,9 +15,11 @@ abbrev pub own : List ℕ → ℕ
 own [] = 0
 own (x ∷ xs) = x
 
+-- the longer one, or the first of two that are as long
 abbrev pub longer : {E : Type 0} → List E → List E → List E
 longer xs ys = if nat_le (length ys) (length xs) then xs else ys
 
+-- the root that is told first, if any is
 abbrev pub first_root : {R : Type 0} → List (Start R) → Option R
 first_root [] = None
 first_root (start ∷ starts) = Some start.root
@@ -27,9 +29,11 @@ module _ {E R : Type 0} where
   abbrev pub fresh : List (Start R) → View E R
   fresh starts = record { numbers = []; seen = []; mine = []; holds = false; losses = []; merged = []; starts = starts }
 
+  -- the first seat, which has number 0
   abbrev pub first_view : Start R → View E R
   first_view start = record { numbers = 0 ∷ []; seen = []; mine = []; holds = false; losses = []; merged = []; starts = start ∷ [] }
 
+  -- the number n was drawn
   abbrev pub drawn_as : View E R → ℕ → View E R
   drawn_as v n = record v { numbers = n ∷ [] }
 
@@ -45,12 +49,19 @@ module _ {E R : Type 0} where
   abbrev pub entered : View E R → E → View E R
   entered v e = record v { seen = v.seen ++ e ∷ []; mine = v.mine ++ (length v.seen, e) ∷ [] }
 
+  -- the turn was given back
   abbrev pub given : View E R → View E R
   given v = record v { holds = false }
 
   -- one seat has taken in another
   abbrev pub rejoined : View E R → View E R → View E R
-  rejoined v w = record v { numbers = v.numbers ++ w.numbers; seen = longer v.seen w.seen; mine = v.mine ++ w.mine; merged = (v.merged ++ w.merged) ++ v.seen ∷ w.seen ∷ []; starts = v.starts ++ w.starts }
+  rejoined v w = record v {
+    numbers = v.numbers ++ w.numbers;
+    seen = longer v.seen w.seen;
+    mine = v.mine ++ w.mine;
+    merged = (v.merged ++ w.merged) ++ v.seen ∷ w.seen ∷ [];
+    starts = v.starts ++ w.starts;
+  }
 
   -- what contracts see of the pass with this seat
   abbrev pub shown : LockId → ℕ → View E R → PassState E R
