@@ -1,4 +1,8 @@
 //! A lock that threads take in turns, round a value that has a history.
+//!
+//! Each thread has a pass of its own. `try_turn` and `turn` hand out the value, whose history begins with all that the
+//! pass has seen, and `give` takes it back with at most one entry more. `close_with` takes all the passes and gives the
+//! value: its history is made of just the entries that the passes added, each once.
 #![tactic(auto)]
 
 mod close;

@@ -2,7 +2,7 @@ ghost use Rattle.std.specs.Prelude.{◌≡◌, ℕ, ◌++◌, ◌∷◌, [], tru
 ghost use Rattle.turn_lock.specs.Pass.{HasRoot, IsMadeOf};
 
 use super::*;
-use std::alloc::AllocError;
+use std::alloc::Global;
 use std::sync::Wait;
 use std::test::Fail;
 use std::thread::{Threads, join};
@@ -178,12 +178,7 @@ fn the_entries_of_two_threads_stand_in_their_own_orders(rt: HostRuntime) -> Resu
 }
 
 // Pays a sum into a new account with the lock of one pass, and closes it.
-fn paid_in<R: Wait>(
-    rt: &R,
-    alloc: std::alloc::Global,
-    opened_with: u64,
-    sum: u64,
-) -> Result<Account, NoMemory>
+fn paid_in<R: Wait>(rt: &R, alloc: Global, opened_with: u64, sum: u64) -> Result<Account, NoMemory>
     ensures { IfOk result (λ account. account.opened_with ≡ opened_with) }
 {
     let account = Account {

@@ -58,6 +58,7 @@ pub const DRAWN: usize = 2;
 // The slot of the value.
 pub const VALUE: usize = 0;
 
+// The rule of the table.
 pub struct Turns;
 
 impl<V: StandsFor> TableRule<Option<V>, View<V::Entry, V::Root>, Opening<V>> for Turns {
@@ -66,36 +67,42 @@ impl<V: StandsFor> TableRule<Option<V>, View<V::Entry, V::Root>, Opening<V>> for
     ghost first = { λ key. first_view (start_of V.root key) };
 }
 
+// Takes the turn, or loses it to the pass that holds it.
 pub struct Take;
 
 impl<V: StandsFor> Play<Option<V>, View<V::Entry, V::Root>> for Take {
     ghost then = { took V.history V.root };
 }
 
+// Reads the length of the history, while holding the turn.
 pub struct Count;
 
 impl<V: StandsFor> Play<Option<V>, View<V::Entry, V::Root>> for Count {
     ghost then = { counted V.history V.root };
 }
 
+// Adds an entry to the history, while holding the turn.
 pub struct Add;
 
 impl<V: StandsFor> Play<Option<V>, View<V::Entry, V::Root>> for Add {
     ghost then = { added V.history V.root };
 }
 
+// Gives the turn back.
 pub struct Give;
 
 impl<V: StandsFor> Play<Option<V>, View<V::Entry, V::Root>> for Give {
     ghost then = { gave V.history V.root };
 }
 
+// Draws a number, or finds another drawn.
 pub struct Draw;
 
 impl<V: StandsFor> Play<Option<V>, View<V::Entry, V::Root>> for Draw {
     ghost then = { drew V.history V.root };
 }
 
+// A seat is made for a new pass.
 pub struct Newcomer;
 
 impl<E, R> Split<View<E, R>> for Newcomer {
@@ -104,6 +111,7 @@ impl<E, R> Split<View<E, R>> for Newcomer {
     ghost right = { λ v. fresh v.starts };
 }
 
+// One seat takes in another.
 pub struct Rejoin;
 
 impl<E, R> Join<View<E, R>> for Rejoin {
