@@ -1,0 +1,17 @@
+ghost use Rattle.std.specs.Prelude.{◌≡◌, List, length};
+
+/// What a turn lock may hold: a value that has a history, which is a list of entries, and a root, from which the
+/// history began. Contracts alone see both.
+pub trait StandsFor {
+    type Entry;
+
+    type Root;
+
+    ghost history: { Self → List Self.Entry };
+
+    ghost root: { Self → Self.Root };
+
+    /// The length of the history.
+    fn entries(&self) -> u64
+        ensures { result ≡ length (history self.now) };
+}
