@@ -124,31 +124,62 @@ module _ (r : Requester) (a : Attempt) (one : touched r a ≡ 0 ∷ []) where
       let ends = h.3 in
       let p = prepare_of a.ordinal h.2 h.0 (subst (λ parts. ArePrepares a.ordinal parts prepares h.0) one h.5) in
       let e = end_of a.ordinal (EndCommit h.1) h.3 (subst (λ parts. AreEnds a.ordinal (EndCommit h.1) parts ends) one h.6) in
-      inl (record { floor = p.1; stamp = h.1; prepare = p.0; commit = e.0;
+      inl (record {
+        floor = p.1;
+        stamp = h.1;
+        prepare = p.0;
+        commit = e.0;
         entries = h.4 ∙ ap (λ es. es ++ drawn a.ordinal (greatest_of h.0) h.1 ∷ h.3) p.2
-          ∙ ap (λ floors. p.0 ∷ drawn a.ordinal (greatest_of floors) h.1 ∷ h.3) p.3
-          ∙ ap (λ floor. p.0 ∷ drawn a.ordinal floor h.1 ∷ h.3) (greatest_of_one p.1)
-          ∙ ap (λ es. p.0 ∷ drawn a.ordinal p.1 h.1 ∷ es) e.1;
-        prepares = p.4; commits = e.2; outcome_is = h.7 })
+            ∙ ap (λ floors. p.0 ∷ drawn a.ordinal (greatest_of floors) h.1 ∷ h.3) p.3
+            ∙ ap (λ floor. p.0 ∷ drawn a.ordinal floor h.1 ∷ h.3) (greatest_of_one p.1)
+            ∙ ap (λ es. p.0 ∷ drawn a.ordinal p.1 h.1 ∷ es) e.1;
+        prepares = p.4;
+        commits = e.2;
+        outcome_is = h.7;
+      })
   ends_of None (inr h) =
       let only = only_part h.0 h.1 h.2 (sym one ∙ h.7) in
       let e = end_of a.ordinal EndUndo h.6 (subst (λ parts. AreEnds a.ordinal EndUndo parts h.6) one h.11) in
       let none = none_prepare a.ordinal h.4 h.3 (subst (λ front. ArePrepares a.ordinal front h.4 h.3) only.0 h.9) in
-      inr (record { lost = h.5; undo = e.0;
+      inr (record {
+        lost = h.5;
+        undo = e.0;
         entries = h.8 ∙ ap (λ prepares. prepares ++ h.5 ∷ h.6) none ∙ ap (λ ends. h.5 ∷ ends) e.1;
-        loses = subst (λ part. IsAsked part (asking a.ordinal Prepare) PathFailed h.5) only.1 h.10; undoes = e.2; outcome_is = h.12 })
+        loses = subst (λ part. IsAsked part (asking a.ordinal Prepare) PathFailed h.5) only.1 h.10;
+        undoes = e.2;
+        outcome_is = h.12;
+      })
 
   ends_to : (end : Option Abort) → EndsOne r.number a.ordinal end a.ending a.outcome → IsEnding r a end true
   ends_to (Some abort) h =
       (subst (λ parts. AreEnds a.ordinal EndUndo parts a.ending) (sym one) (subst (AreEnds a.ordinal EndUndo (0 ∷ [])) (sym h.entries) (h.undoes, tt)), h.outcome_is)
   ends_to None (inl h) =
-      inl (h.floor ∷ [], h.stamp, h.prepare ∷ [], h.commit ∷ [],
+      inl (
+        h.floor ∷ [],
+        h.stamp,
+        h.prepare ∷ [],
+        h.commit ∷ [],
         (h.entries ∙ ap (λ floor. h.prepare ∷ drawn a.ordinal floor h.stamp ∷ h.commit ∷ []) (sym (greatest_of_one h.floor))),
         subst (λ parts. ArePrepares a.ordinal parts (h.prepare ∷ []) (h.floor ∷ [])) (sym one) (h.prepares, tt),
-        subst (λ parts. AreEnds a.ordinal (EndCommit h.stamp) parts (h.commit ∷ [])) (sym one) (h.commits, tt), h.outcome_is)
+        subst (λ parts. AreEnds a.ordinal (EndCommit h.stamp) parts (h.commit ∷ [])) (sym one) (h.commits, tt),
+        h.outcome_is,
+      )
   ends_to None (inr h) =
-      inr ([], 0, [], [], [], h.lost, h.undo ∷ [], one, h.entries, tt, h.loses,
-        subst (λ parts. AreEnds a.ordinal EndUndo parts (h.undo ∷ [])) (sym one) (h.undoes, tt), h.outcome_is)
+      inr (
+        [],
+        0,
+        [],
+        [],
+        [],
+        h.lost,
+        h.undo ∷ [],
+        one,
+        h.entries,
+        tt,
+        h.loses,
+        subst (λ parts. AreEnds a.ordinal EndUndo parts (h.undo ∷ [])) (sym one) (h.undoes, tt),
+        h.outcome_is,
+      )
 
 module _ (r : Requester) (plan : plan_of r select ≡ Subsets (first_sent ∷ [])) (parts : parts_of r.tables ≡ 1) where
   -- an attempt reads as one scan
@@ -159,11 +190,16 @@ module _ (r : Requester) (plan : plan_of r select ≡ Subsets (first_sent ∷ []
       let lists : OneAfterOther (IsList r ordinal) (first_sent ∷ []) part.0 end = subst (λ p. InLineBy r ordinal p part.0 end) plan part.2 in
       let list = one_of (IsList r ordinal) first_sent lists.0 end lists.2 in
       let are_joined : joined a.parts ≡ joined list.2.0 =
-        ap joined part.1 ∙ joined-one part.0 ∙ lists.1 ∙ ap joined list.1 ∙ joined-one list.0 ∙ list.2.1 in
+      ap joined part.1 ∙ joined-one part.0 ∙ lists.1 ∙ ap joined list.1 ∙ joined-one list.0 ∙ list.2.1 in
       let touches = ap (list_any (is_for 0)) are_joined ∙ rows_touch r ordinal begin list.2.0 end list.2.2 in
       let ends = ends_of r a (touched_one r a parts touches) end h.parts_and_ending.2 in
-      record { rows = list.2.0; end = end; are_joined = are_joined; are_rows = list.2.2;
-        ends = subst (λ o. EndsOne r.number o end a.ending a.outcome) h.numbered ends }
+      record {
+        rows = list.2.0;
+        end = end;
+        are_joined = are_joined;
+        are_rows = list.2.2;
+        ends = subst (λ o. EndsOne r.number o end a.ending a.outcome) h.numbered ends;
+      }
 
   abbrev pub attempt : ℕ → List LogEntry → List LogEntry → Outcome → Attempt
   attempt ordinal entries ending outcome = record { work = scan; ordinal = ordinal; parts = entries ∷ []; ending = ending; outcome = outcome }
@@ -175,6 +211,9 @@ module _ (r : Requester) (plan : plan_of r select ≡ Subsets (first_sent ∷ []
       let touches = ap (list_any (is_for 0)) (joined-one entries ∙ s.are_joined) ∙ rows_touch r ordinal begin s.rows s.end s.are_rows in
       let list = one_to (IsList r ordinal) first_sent entries s.end (s.rows, s.are_joined, s.are_rows) in
       let part : IsInLine r ordinal select entries s.end =
-        subst (λ p. InLineBy r ordinal p entries s.end) (sym plan) (entries ∷ [], sym (joined-one entries), list) in
-      record { of_work = refl; numbered = refl;
-        parts_and_ending = (s.end, one_to (IsInLine r ordinal) select entries s.end part, ends_to r a (touched_one r a parts touches) s.end s.ends) }
+      subst (λ p. InLineBy r ordinal p entries s.end) (sym plan) (entries ∷ [], sym (joined-one entries), list) in
+      record {
+        of_work = refl;
+        numbered = refl;
+        parts_and_ending = (s.end, one_to (IsInLine r ordinal) select entries s.end part, ends_to r a (touched_one r a parts touches) s.end s.ends);
+      }

@@ -81,16 +81,18 @@ module _ (patience number : ℕ) where
   row_leads o m zero stage answer (e ∷ f ∷ es) reading h = absurd h
   row_leads o m (suc n) stage answer (e ∷ f ∷ es) reading h =
       let rest = row_leads o m n stage answer (f ∷ es) reading h.1 in
-      let locked = Reply (reply.Locked h.0.0) in
-      (rest.0, rest.1,
+      let locked = Reply (reply.Locked h.0.0) in (
+        rest.0,
+        rest.1,
         Leads-append patience number (e ∷ []) (f ∷ es) (place o m (suc n) stage) (place o m n stage) (after_row patience (place o m rest.0 stage) answer)
-          (read_step o m (suc n) stage locked e reading h.0.1) rest.2)
+            (read_step o m (suc n) stage locked e reading h.0.1) rest.2,
+      )
 
   -- the last row of a subset leads to its end
   last_row : (o m k : ℕ) (stage : Stage) (answer : Answer) (rows : List (List LogEntry)) (end : Option Abort) (goes_on : ℕ → List ℕ → Type 0)
       → (is_locked answer ≡ true → k ≡ 0) → AfterRow answer goes_on rows end
       → ((rows ≡ []) × (after_row patience (place o m k stage) answer ≡ behind_rows o m k end))
-        ⊎ ((subset : ℕ) × (last : List ℕ) × goes_on subset last × (after_row patience (place o m k stage) answer ≡ place o m patience (Continuing subset last)))
+      ⊎ ((subset : ℕ) × (last : List ℕ) × goes_on subset last × (after_row patience (place o m k stage) answer ≡ place o m patience (Continuing subset last)))
   last_row o m k stage (Reply (reply.Redrive subset last cause out changed)) rows end goes_on locked h = inr (subset, last, h, refl)
   last_row o m k stage (Reply (reply.Ended out changed)) rows end goes_on locked h = inl (h.0, ap (behind_rows o m k) (sym h.1))
   last_row o m k stage (Reply (reply.Locked lock)) rows end goes_on locked h =
@@ -113,13 +115,15 @@ module _ (r : Requester) where
       let led = row_leads patience r.number o m patience stage h.0 row reading h.1 in
       let reached = after_row patience (place o m led.0 stage) h.0 in
       elim (last_row patience r.number o m led.0 stage h.0 rows end (λ subset last. AreRows r o 0 (Continue subset last) rows end) led.1 h.2) [
-        inl done ↦
-          (led.0, subst (λ es. Leads_in start es (behind_rows o m led.0 end)) (sym (joined-one row) ∙ ap (λ rs. joined (row ∷ rs)) (sym done.0))
-            (subst (Leads_in start row) done.1 led.2))
-      | inr more ↦
-          let next = place o m patience (Continuing more.0 more.1) in
-          let rest = rows_lead o m (Continuing more.0 more.1) rows end tt more.2 in
-          (rest.0, Leads-append patience r.number row (joined rows) start next (behind_rows o m rest.0 end) (subst (Leads_in start row) more.3 led.2) rest.1)
+        | inl done ↦ (
+          led.0,
+          subst (λ es. Leads_in start es (behind_rows o m led.0 end)) (sym (joined-one row) ∙ ap (λ rs. joined (row ∷ rs)) (sym done.0))
+              (subst (Leads_in start row) done.1 led.2),
+        )
+        | inr more ↦
+            let next = place o m patience (Continuing more.0 more.1) in
+            let rest = rows_lead o m (Continuing more.0 more.1) rows end tt more.2 in
+            (rest.0, Leads-append patience r.number row (joined rows) start next (behind_rows o m rest.0 end) (subst (Leads_in start row) more.3 led.2) rest.1)
       ]
 
   -- where the end of an attempt leads
@@ -145,7 +149,7 @@ module _ (r : Requester) where
       let from = place o m k (Undoing (is_locked_out abort)) in
       let to = behind_end o m k (Aborted abort) in
       subst (λ out. Leads_in from ending (behind_end o m k out)) (sym h.outcome_is) (subst (λ es. Leads_in from es to) (sym h.entries)
-        (asked_leads from to EndUndo (Reply reply.Done) h.undo refl (undo_reaches o m k abort) h.undoes))
+      (asked_leads from to EndUndo (Reply reply.Done) h.undo refl (undo_reaches o m k abort) h.undoes))
   end_leads o m k None ending outcome (inl h) =
       let from = place o m k Preparing in
       let drawing = place o m k (Drawing h.floor) in
@@ -156,7 +160,7 @@ module _ (r : Requester) where
       let committed = asked_leads committing to (EndCommit h.stamp) (Reply reply.Done) h.commit refl refl h.commits in
       let drawn : Leads_in drawing (drew ∷ h.commit ∷ []) to = ((refl, refl, tt), committed) in
       subst (λ out. Leads_in from ending (behind_end o m k out)) (sym h.outcome_is) (subst (λ es. Leads_in from es to) (sym h.entries)
-        (Leads-append r.limits.patience r.number (h.prepare ∷ []) (drew ∷ h.commit ∷ []) from drawing to prepared drawn))
+      (Leads-append r.limits.patience r.number (h.prepare ∷ []) (drew ∷ h.commit ∷ []) from drawing to prepared drawn))
   end_leads o m k None ending outcome (inr h) =
       let from = place o m k Preparing in
       let undoing = place o m k (Undoing false) in
@@ -164,7 +168,7 @@ module _ (r : Requester) where
       let lost = asked_leads from undoing Prepare PathFailed h.lost refl refl h.loses in
       let undone = asked_leads undoing to EndUndo (Reply reply.Done) h.undo refl refl h.undoes in
       subst (λ out. Leads_in from ending (behind_end o m k out)) (sym h.outcome_is) (subst (λ es. Leads_in from es to) (sym h.entries)
-        (Leads-append r.limits.patience r.number (h.lost ∷ []) (h.undo ∷ []) from undoing to lost undone))
+      (Leads-append r.limits.patience r.number (h.lost ∷ []) (h.undo ∷ []) from undoing to lost undone))
 
   -- an attempt leads to its end
   scan_leads : (o m : ℕ) (entries ending : List LogEntry) (outcome : Outcome) → Scans r o entries ending outcome

@@ -138,29 +138,68 @@ module _ (r : Requester) where
       → IsRow n 0 (asking o ask) (e ∷ []) answer → AfterRow answer (λ subset last. AreRows r o 0 (Continue subset last) [] (Some abort)) [] (Some abort)
       → FromUndo r o m (is_locked_out abort) es → FromRow r o m n ask (e ∷ es)
   failed o m n ask answer abort e es is_row goes_on u = record {
-    row = e ∷ []; answer = answer; rows = []; end = Some abort; ending = u.undo ∷ []; outcome = Aborted abort; rest = u.rest;
-    is_row = is_row; goes_on = goes_on;
+    row = e ∷ [];
+    answer = answer;
+    rows = [];
+    end = Some abort;
+    ending = u.undo ∷ [];
+    outcome = Aborted abort;
+    rest = u.rest;
+    is_row = is_row;
+    goes_on = goes_on;
     ends = record { undo = u.undo; entries = refl; undoes = u.undoes; outcome_is = refl };
-    behind = u.behind; entries = ap (λ t. e ∷ t) u.entries }
+    behind = u.behind;
+    entries = ap (λ t. e ∷ t) u.entries;
+  }
 
   row_sound : (o m n : ℕ) (stage : Stage) (answer : Answer) (e : LogEntry) (es : List LogEntry) → IsReading stage → IsSubsetAnswer answer
       → IsAsked 0 (asking o (ask_of stage)) answer e → From r (after_row r.limits.patience (place o m n stage) answer) es → FromRow r o m n (ask_of stage) (e ∷ es)
   row_sound o m n stage (Reply (reply.Redrive subset last cause out changed)) e es reading fit h ih = record {
-    row = e ∷ []; answer = Reply (reply.Redrive subset last cause out changed); rows = ih.row ∷ ih.rows; end = ih.end; ending = ih.ending; outcome = ih.outcome; rest = ih.rest;
-    is_row = (h, λ locked. absurd (cc locked)); goes_on = (ih.answer, ih.is_row, ih.goes_on); ends = ih.ends; behind = ih.behind;
-    entries = ap (λ t. e ∷ t) ih.entries }
+    row = e ∷ [];
+    answer = Reply (reply.Redrive subset last cause out changed);
+    rows = ih.row ∷ ih.rows;
+    end = ih.end;
+    ending = ih.ending;
+    outcome = ih.outcome;
+    rest = ih.rest;
+    is_row = (h, λ locked. absurd (cc locked));
+    goes_on = (ih.answer, ih.is_row, ih.goes_on);
+    ends = ih.ends;
+    behind = ih.behind;
+    entries = ap (λ t. e ∷ t) ih.entries;
+  }
   row_sound o m n stage (Reply (reply.Ended out changed)) e es reading fit h ih = record {
-    row = e ∷ []; answer = Reply (reply.Ended out changed); rows = []; end = None; ending = es; outcome = ih.outcome; rest = [];
-    is_row = (h, λ locked. absurd (cc locked)); goes_on = (refl, refl); ends = ih.ends;
+    row = e ∷ [];
+    answer = Reply (reply.Ended out changed);
+    rows = [];
+    end = None;
+    ending = es;
+    outcome = ih.outcome;
+    rest = [];
+    is_row = (h, λ locked. absurd (cc locked));
+    goes_on = (refl, refl);
+    ends = ih.ends;
     behind = subst (λ b. Behind r b o m []) (sym ih.no_lock) refl;
-    entries = ap (λ t. e ∷ t) (sym (append-nil es)) }
+    entries = ap (λ t. e ∷ t) (sym (append-nil es));
+  }
   row_sound o m zero stage (Reply (reply.Locked lock)) e es reading fit h ih =
       failed o m 0 (ask_of stage) (Reply (reply.Locked lock)) LockedOut e es (h, λ locked. refl) (refl, refl, refl) ih
   row_sound o m (suc n) stage (Reply (reply.Locked lock)) e es reading fit h ih =
       let rest = from_reading o m n stage es reading ih in
-      record { row = e ∷ rest.row; answer = rest.answer; rows = rest.rows; end = rest.end; ending = rest.ending; outcome = rest.outcome; rest = rest.rest;
-        is_row = repeat_row n (asking o (ask_of stage)) lock rest.answer e rest.row h rest.is_row; goes_on = rest.goes_on; ends = rest.ends; behind = rest.behind;
-        entries = ap (λ t. e ∷ t) rest.entries }
+      record {
+        row = e ∷ rest.row;
+        answer = rest.answer;
+        rows = rest.rows;
+        end = rest.end;
+        ending = rest.ending;
+        outcome = rest.outcome;
+        rest = rest.rest;
+        is_row = repeat_row n (asking o (ask_of stage)) lock rest.answer e rest.row h rest.is_row;
+        goes_on = rest.goes_on;
+        ends = rest.ends;
+        behind = rest.behind;
+        entries = ap (λ t. e ∷ t) rest.entries;
+      }
   row_sound o m n stage (Reply (reply.Failed key fault)) e es reading fit h ih =
       failed o m n (ask_of stage) (Reply (reply.Failed key fault)) (Faulted key fault) e es (h, λ locked. absurd (cc locked)) (refl, refl, refl) ih
   row_sound o m n stage PathFailed e es reading fit h ih =
@@ -171,14 +210,31 @@ module _ (r : Requester) where
   prepare_sound : (o m n : ℕ) (losses : ℕ) (answer : Answer) (e : LogEntry) (es : List LogEntry) → IsSent Prepare losses answer
       → IsAsked 0 (asking o Prepare) answer e → From r (after_prepare (place o m n Preparing) answer) es → FromPrepare r o (e ∷ es)
   prepare_sound o m n losses (Reply (reply.Floor floor)) e es fit h ih = record {
-    outcome = Committed ih.stamp; no_lock = refl;
-    ends = inl (record { floor = floor; stamp = ih.stamp; prepare = e; commit = ih.commits.commit;
+    outcome = Committed ih.stamp;
+    no_lock = refl;
+    ends = inl (record {
+      floor = floor;
+      stamp = ih.stamp;
+      prepare = e;
+      commit = ih.commits.commit;
       entries = ap (λ t. e ∷ t) (ih.entries ∙ ap (λ t. Drew (record { session = r.number; ordinal = o }) floor (Stamp ih.stamp) ∷ t) ih.commits.entries);
-      prepares = h; commits = ih.commits.commits; outcome_is = refl }) }
+      prepares = h;
+      commits = ih.commits.commits;
+      outcome_is = refl;
+    });
+  }
   prepare_sound o m n losses PathFailed e es fit h ih = record {
-    outcome = Aborted PathLost; no_lock = refl;
-    ends = inr (record { lost = e; undo = ih.undo; entries = ap (λ t. e ∷ t) (ih.entries ∙ ap (λ t. ih.undo ∷ t) ih.behind);
-      loses = h; undoes = ih.undoes; outcome_is = refl }) }
+    outcome = Aborted PathLost;
+    no_lock = refl;
+    ends = inr (record {
+      lost = e;
+      undo = ih.undo;
+      entries = ap (λ t. e ∷ t) (ih.entries ∙ ap (λ t. ih.undo ∷ t) ih.behind);
+      loses = h;
+      undoes = ih.undoes;
+      outcome_is = refl;
+    });
+  }
   prepare_sound o m n losses (Stamp stamp) e es fit h ih = absurd fit
   prepare_sound o m n losses (Reply other) e es fit h ih = absurd (cc fit.1)
 
@@ -194,6 +250,7 @@ module _ (r : Requester) (plan : plan_of r select ≡ Subsets (first_sent ∷ []
     where
       a : Attempt
       a = attempt r plan parts o entries ending (Aborted LockedOut)
+
       next : (tries : List Attempt) → AreTries IsInLine r scan (o + 1) m tries → rest ≡ flat_map entries_of tries → Tries r o (suc m) (entries_of a ++ rest)
       next [] t e = absurd t
       next (b ∷ bs) t e = (a ∷ b ∷ bs, (h, refl, t), ap (λ t. entries_of a ++ t) e)
@@ -205,7 +262,7 @@ module _ (r : Requester) (plan : plan_of r select ≡ Subsets (first_sent ∷ []
   tries_of o m es h =
       let entries = h.row ++ joined h.rows in
       let s : Scans r o entries h.ending h.outcome =
-        record { rows = h.row ∷ h.rows; end = h.end; are_joined = refl; are_rows = (h.answer, h.is_row, h.goes_on); ends = h.ends } in
+      record { rows = h.row ∷ h.rows; end = h.end; are_joined = refl; are_rows = (h.answer, h.is_row, h.goes_on); ends = h.ends } in
       let tries = tries_behind o m entries h.ending h.outcome h.rest (attempt_of r plan parts o entries h.ending h.outcome s) h.behind in
       (tries.0, tries.1, h.entries ∙ sym (append_assoc entries h.ending h.rest) ∙ ap (λ t. (t ++ h.ending) ++ h.rest) (sym (joined-one entries)) ∙ tries.2)
 
@@ -219,29 +276,40 @@ module _ (r : Requester) (plan : plan_of r select ≡ Subsets (first_sent ∷ []
   step_sound o m n Beginning e es does ih =
       let d = does_asked (record { session = r.number; ordinal = o }) (asking o begin) e does in
       row_sound r o m n Beginning d.0 e es tt (subset_answer begin d.1 d.0 (λ x. refl) d.3) d.2
-        (subst (λ p. From r p es) (d.4 r.limits.patience (place o m n Beginning)) ih)
+      (subst (λ p. From r p es) (d.4 r.limits.patience (place o m n Beginning)) ih)
   step_sound o m n (Continuing subset last) e es does ih =
       let d = does_asked (record { session = r.number; ordinal = o }) (asking o (Continue subset last)) e does in
       row_sound r o m n (Continuing subset last) d.0 e es tt (subset_answer (Continue subset last) d.1 d.0 (λ x. refl) d.3) d.2
-        (subst (λ p. From r p es) (d.4 r.limits.patience (place o m n (Continuing subset last))) ih)
+      (subst (λ p. From r p es) (d.4 r.limits.patience (place o m n (Continuing subset last))) ih)
   step_sound o m n Preparing e es does ih =
       let d = does_asked (record { session = r.number; ordinal = o }) (asking o Prepare) e does in
       prepare_sound r o m n d.1 d.0 e es d.3 d.2 (subst (λ p. From r p es) (d.4 r.limits.patience (place o m n Preparing)) ih)
   step_sound o m n (Drawing floor) (Asked p s q l a) es does ih = absurd does
   step_sound o m n (Drawing floor) (Drew name f (Stamp stamp)) es does ih = record {
-    stamp = stamp; rest = es; commits = ih;
-    entries = ap (λ x. Drew x f (Stamp stamp) ∷ es) does.0 ∙ ap (λ x. Drew (record { session = r.number; ordinal = o }) x (Stamp stamp) ∷ es) does.1 }
+    stamp = stamp;
+    rest = es;
+    commits = ih;
+    entries = ap (λ x. Drew x f (Stamp stamp) ∷ es) does.0 ∙ ap (λ x. Drew (record { session = r.number; ordinal = o }) x (Stamp stamp) ∷ es) does.1;
+  }
   step_sound o m n (Drawing floor) (Drew name f answer) es does ih = absurd does.2
   step_sound o m n (Committing stamp) e es does ih =
       let d = does_asked (record { session = r.number; ordinal = o }) (asking o (EndCommit stamp)) e does in
       let done = done_answer (EndCommit stamp) d.1 d.0 refl (λ x. refl) d.3 in
-      record { commit = e; entries = ap (λ t. e ∷ t) (subst (λ p. From r p es) (d.4 r.limits.patience (place o m n (Committing stamp))) ih);
-        commits = subst (λ a. IsAsked 0 (asking o (EndCommit stamp)) a e) done d.2 }
+      record {
+        commit = e;
+        entries = ap (λ t. e ∷ t) (subst (λ p. From r p es) (d.4 r.limits.patience (place o m n (Committing stamp))) ih);
+        commits = subst (λ a. IsAsked 0 (asking o (EndCommit stamp)) a e) done d.2;
+      }
   step_sound o m n (Undoing locked_out) e es does ih =
       let d = does_asked (record { session = r.number; ordinal = o }) (asking o EndUndo) e does in
       let done = done_answer EndUndo d.1 d.0 refl (λ x. refl) d.3 in
-      record { undo = e; rest = es; entries = refl; undoes = subst (λ a. IsAsked 0 (asking o EndUndo) a e) done d.2;
-        behind = undo_behind locked_out o m n es (subst (λ p. From r p es) (d.4 r.limits.patience (place o m n (Undoing locked_out))) ih) }
+      record {
+        undo = e;
+        rest = es;
+        entries = refl;
+        undoes = subst (λ a. IsAsked 0 (asking o EndUndo) a e) done d.2;
+        behind = undo_behind locked_out o m n es (subst (λ p. From r p es) (d.4 r.limits.patience (place o m n (Undoing locked_out))) ih);
+      }
   step_sound o m n Finished e es does ih = absurd does
 
   ended : (o m n : ℕ) (stage : Stage) → stage ≡ Finished → FromStage r o m n stage []

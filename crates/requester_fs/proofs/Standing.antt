@@ -25,7 +25,7 @@ use Rattle.requester_fs.specs.Leading.{Leads, Does, StandsAt, next_of, place_beh
 use Rattle.requester_fs.specs.Places.{begin, task_in, task_at, first_place, after, after_in, after_row, after_reply, after_prepare, after_draw, after_undo, repeated, restarted}
 use Rattle.requester_fs.specs.Plans.{Requester, Subsets, plan_of}
 use Rattle.requester_fs.specs.Rows.{IsSent}
-use Rattle.requester_fs.specs.Sessions.{Next, Sends, Draws, Ends, MayCome, entries_kept, Working, IsSessionOf}
+use Rattle.requester_fs.specs.Sessions.{Next, Sends, Draws, Ends, MayCome, entries_kept, Working, Begins, IsWithin, IsSessionOf}
 use Rattle.requester_fs.specs.Thin.{IsThin, scan}
 use Rattle.requester_fs.proofs.Attempts.{asking}
 use Rattle.requester_fs.proofs.Complete.{place, tries_lead}
@@ -90,57 +90,6 @@ module _ (patience number : ℕ) where
 ends_stage : (number sync ordinal : ℕ) (stage : Stage) → next_of number sync ordinal (task_in ordinal stage) ≡ Ends → stage ≡ Finished
 ends_stage number sync ordinal Finished h = refl
 ends_stage number sync ordinal other h = absurd (cc h)
-
-module _ (script : Script) (thin : IsThin script) where
-  abbrev r : Requester
-  r = requester script 1
-
-  plan : plan_of r select ≡ Subsets (first_sent ∷ [])
-  plan = thin-plan r thin.table.0 thin.table.1 thin.table.2
-
-  parts : parts_of r.tables ≡ 1
-  parts = thin-parts r thin.table.0 thin.table.1 thin.table.2
-
-  works : works_of script 1 ≡ scan ∷ []
-  works = rw thin.session refl
-
-  -- the logs that lead to the end are those that the script allows
-  leads_in_line : (log : List LogEntry) (q : Place) → CountSyncs 1 log → Leads r.limits.patience 1 (first_place r.limits) log q → q.stage ≡ Finished → in_line script 1 log
-  leads_in_line log q syncs led fin =
-      let tries = tries_of r plan parts 1 r.limits.restart log (sound r plan parts log (first_place r.limits) q led fin) in
-      let reads : Reads IsInLine r (scan ∷ []) log tries.0 =
-        record { syncs = syncs; entries = tries.2; attempts_are = (tries.0, [], sym (append-nil tries.0), tries.1, refl) } in
-      subst (λ ws. FollowsInLine r ws log) (sym works) (tries.0, reads)
-
-  in_line_leads : (log : List LogEntry) → in_line script 1 log → (q : Place) × Leads r.limits.patience 1 (first_place r.limits) log q × (q.stage ≡ Finished)
-  in_line_leads log h =
-      let follows : FollowsInLine r (scan ∷ []) log = subst (λ ws. FollowsInLine r ws log) works h in
-      let reads = follows.1 in
-      let are = reads.attempts_are in
-      let only : follows.0 ≡ are.0 = are.2 ∙ ap (λ t. are.0 ++ t) are.4 ∙ append-nil are.0 in
-      let led = tries_lead r plan parts 1 r.limits.restart are.0 are.3 in
-      (led.0, subst (λ es. Leads r.limits.patience 1 (first_place r.limits) es led.0) (sym (reads.entries ∙ ap (flat_map entries_of) only)) led.1, led.2)
-
-  pub stands_in_line : (place : Place) (sync : ℕ) (task : Task) (log : List LogEntry) → StandsAt script.limits 1 place sync task log
-      → IsSessionOf script 1 (record { limits = script.limits; number = 1; log = log; next = next_of 1 sync place.ordinal task })
-  stands_in_line place sync task log s = record { limits = refl; number_is = refl; goes_on = goes_on; ends_where_whole = (to, from) }
-    where
-      patience : ℕ
-      patience = script.limits.patience
-      goes_on : (rest : List LogEntry) × in_line script 1 (log ++ rest)
-      goes_on =
-          let c = can_end script.limits.patience 1 (sync_behind 1 log) place in
-          (c.rest, leads_in_line (log ++ c.rest) c.end (CountSyncs-append 1 log c.rest s.syncs c.syncs)
-            (Leads-append script.limits.patience 1 log c.rest (first_place script.limits) place c.end s.led c.led) c.finished)
-      to : next_of 1 sync place.ordinal task ≡ Ends → in_line script 1 log
-      to h = leads_in_line log place s.syncs s.led (ends_stage 1 sync place.ordinal place.stage (subst (λ t. next_of 1 sync place.ordinal t ≡ Ends) s.task_is h))
-      from : in_line script 1 log → next_of 1 sync place.ordinal task ≡ Ends
-      from h =
-          let led = in_line_leads log h in
-          let here = subst (λ es. Leads script.limits.patience 1 (first_place script.limits) es led.0) (sym (append-nil log)) led.1 in
-          let same : place ≡ led.0 = Leads-rest script.limits.patience 1 log [] (first_place script.limits) place led.0 s.led here in
-          let finished : place.stage ≡ Finished = ap (λ p. p.stage) same ∙ led.2 in
-          ap (next_of 1 sync place.ordinal) (s.task_is ∙ ap (task_in place.ordinal) finished)
 
 -- an answer counts no attempts but those that may follow
 abbrev total : Place → ℕ
@@ -209,16 +158,101 @@ stands_taken limits number place sync task log answer losses e s fit is place' g
     let k = keeps limits.patience number sync place task answer losses e fit is in
     let name : TxnName = record { session = number; ordinal = place.ordinal } in
     record {
-      limits_are = s.limits_are; alone = s.alone; task_is = has;
+      limits_are = s.limits_are;
+      alone = s.alone;
+      task_is = has;
       few =
-        (let le : total (after limits.patience place answer) ≤ total place = few_in limits.patience place place.stage answer in
-        let le' : total place' ≤ total place = subst (λ p. total p ≤ total place) (sym goes) le in
-        let few = s.few in
-        omega arith);
+          (let le : total (after limits.patience place answer) ≤ total place = few_in limits.patience place place.stage answer in
+          let le' : total place' ≤ total place = subst (λ p. total p ≤ total place) (sym goes) le in
+          let few = s.few in
+          omega arith);
       syncs = CountSyncs-append 1 log (e ∷ []) s.syncs (subst (λ n. CountSyncs n (e ∷ [])) s.sync_is k.counts);
       sync_is = counts ∙ sym k.leaves ∙ ap (λ n. sync_behind n (e ∷ [])) s.sync_is ∙ sym (sync_behind-append 1 log (e ∷ []));
       led = Leads-append limits.patience number log (e ∷ []) (first_place limits) place place' s.led
-        (subst (λ t. Does name t e) s.task_is k.does, k.leads ∙ sym goes) }
+          (subst (λ t. Does name t e) s.task_is k.does, k.leads ∙ sym goes);
+    }
+
+module _ (script : Script) (thin : IsThin script) where
+  abbrev r : Requester
+  r = requester script 1
+
+  plan : plan_of r select ≡ Subsets (first_sent ∷ [])
+  plan = thin-plan r thin.table.0 thin.table.1 thin.table.2
+
+  parts : parts_of r.tables ≡ 1
+  parts = thin-parts r thin.table.0 thin.table.1 thin.table.2
+
+  works : works_of script 1 ≡ scan ∷ []
+  works = rw thin.session refl
+
+  -- the logs that lead to the end are those that the script allows
+  leads_in_line : (log : List LogEntry) (q : Place) → CountSyncs 1 log → Leads r.limits.patience 1 (first_place r.limits) log q → q.stage ≡ Finished → in_line script 1 log
+  leads_in_line log q syncs led fin =
+      let tries = tries_of r plan parts 1 r.limits.restart log (sound r plan parts log (first_place r.limits) q led fin) in
+      let reads : Reads IsInLine r (scan ∷ []) log tries.0 =
+      record { syncs = syncs; entries = tries.2; attempts_are = (tries.0, [], sym (append-nil tries.0), tries.1, refl) } in
+      subst (λ ws. FollowsInLine r ws log) (sym works) (tries.0, reads)
+
+  in_line_leads : (log : List LogEntry) → in_line script 1 log → (q : Place) × Leads r.limits.patience 1 (first_place r.limits) log q × (q.stage ≡ Finished)
+  in_line_leads log h =
+      let follows : FollowsInLine r (scan ∷ []) log = subst (λ ws. FollowsInLine r ws log) works h in
+      let reads = follows.1 in
+      let are = reads.attempts_are in
+      let only : follows.0 ≡ are.0 = are.2 ∙ ap (λ t. are.0 ++ t) are.4 ∙ append-nil are.0 in
+      let led = tries_lead r plan parts 1 r.limits.restart are.0 are.3 in
+      (led.0, subst (λ es. Leads r.limits.patience 1 (first_place r.limits) es led.0) (sym (reads.entries ∙ ap (flat_map entries_of) only)) led.1, led.2)
+
+  begins_of : (here : Place) (sync : ℕ) (task : Task) (log : List LogEntry) → StandsAt script.limits 1 here sync task log → Begins script 1 log
+  begins_of here sync task log s =
+      let c = can_end script.limits.patience 1 (sync_behind 1 log) here in (
+        c.rest,
+        leads_in_line (log ++ c.rest) c.end (CountSyncs-append 1 log c.rest s.syncs c.syncs)
+            (Leads-append script.limits.patience 1 log c.rest (first_place script.limits) here c.end s.led c.led) c.finished,
+      )
+
+  taken_begins : (here : Place) (sync : ℕ) (task : Task) (log : List LogEntry) → StandsAt script.limits 1 here sync task log
+      → (answer : Answer) (losses : ℕ) (e : LogEntry) → MayCome (next_of 1 sync here.ordinal task) answer losses → e ∷ [] ≡ entries_kept (next_of 1 sync here.ordinal task) answer losses
+      → Begins script 1 (log ++ e ∷ [])
+  taken_begins here sync task log s answer losses e fit is =
+      let next = after script.limits.patience here answer in
+      begins_of next (sync_after sync task) (task_at next) (log ++ e ∷ [])
+      (stands_taken script.limits 1 here sync task log answer losses e s fit is next refl (task_at next) refl (sync_after sync task) refl)
+
+  goes_on_of : (here : Place) (sync : ℕ) (task : Task) (log : List LogEntry) → StandsAt script.limits 1 here sync task log
+      → (answer : Answer) (losses : ℕ) → MayCome (next_of 1 sync here.ordinal task) answer losses → Begins script 1 (log ++ entries_kept (next_of 1 sync here.ordinal task) answer losses)
+  goes_on_of here sync (Send request) log s answer losses fit = taken_begins here sync (Send request) log s answer losses (Asked 0 sync request losses answer) fit refl
+  goes_on_of here sync (Commit floor) log s answer losses fit = taken_begins here sync (Commit floor) log s answer losses (Drew (record { session = 1; ordinal = here.ordinal }) floor answer) fit refl
+  goes_on_of here sync Nothing log s answer losses fit = absurd fit
+
+  within : (here : Place) (sync : ℕ) (task : Task) → IsWithin (parts_of script.tables) (next_of 1 sync here.ordinal task)
+  within here sync (Send request) = let one : parts_of script.tables ≡ 1 = parts in omega arith
+  within here sync (Commit floor) = tt
+  within here sync Nothing = tt
+
+  ends_of : (here : Place) (sync : ℕ) (task : Task) (log : List LogEntry) → StandsAt script.limits 1 here sync task log → (next_of 1 sync here.ordinal task ≡ Ends) ↔ in_line script 1 log
+  ends_of here sync task log s = (to, from)
+    where
+      to : next_of 1 sync here.ordinal task ≡ Ends → in_line script 1 log
+      to h = leads_in_line log here s.syncs s.led (ends_stage 1 sync here.ordinal here.stage (subst (λ t. next_of 1 sync here.ordinal t ≡ Ends) s.task_is h))
+
+      from : in_line script 1 log → next_of 1 sync here.ordinal task ≡ Ends
+      from h =
+          let led = in_line_leads log h in
+          let all = subst (λ es. Leads script.limits.patience 1 (first_place script.limits) es led.0) (sym (append-nil log)) led.1 in
+          let same : here ≡ led.0 = Leads-rest script.limits.patience 1 log [] (first_place script.limits) here led.0 s.led all in
+          let finished : here.stage ≡ Finished = ap (λ p. p.stage) same ∙ led.2 in
+          ap (next_of 1 sync here.ordinal) (s.task_is ∙ ap (task_in here.ordinal) finished)
+
+  pub stands_in_line : (here : Place) (sync : ℕ) (task : Task) (log : List LogEntry) → StandsAt script.limits 1 here sync task log
+      → IsSessionOf script 1 (record { limits = script.limits; number = 1; log = log; next = next_of 1 sync here.ordinal task })
+  stands_in_line here sync task log s = record {
+    limits = refl;
+    number_is = refl;
+    part = within here sync task;
+    begins = begins_of here sync task log s;
+    goes_on = goes_on_of here sync task log s;
+    ends_where_whole = ends_of here sync task log s;
+  }
 
 -- a task takes one sync at the most
 pub sync_after-le : (sync : ℕ) (task : Task) → sync_after sync task ≤ sync + 1
@@ -231,11 +265,15 @@ pub stands_first : (limits : Limits) (number : ℕ) → AreLimits limits → num
     → (log : List LogEntry) → log ≡ [] → StandsAt limits number place 1 task log
 stands_first limits number are alone place first task has log empty =
     let few : total (first_place limits) ≤ limits.restart + 1 = omega arith in
-    record { limits_are = are; alone = alone; task_is = has;
+    record {
+      limits_are = are;
+      alone = alone;
+      task_is = has;
       few = subst (λ p. total p ≤ limits.restart + 1) (sym first) few;
       syncs = subst (CountSyncs 1) (sym empty) tt;
       sync_is = ap (sync_behind 1) (sym empty);
-      led = subst (λ es. Leads limits.patience number (first_place limits) es place) (sym empty) (sym first) }
+      led = subst (λ es. Leads limits.patience number (first_place limits) es place) (sym empty) (sym first);
+    }
 
 -- a session that stands at a place is that of each thin script with its limits
 pub stands_session : (script : Script) → IsThin script → (limits : Limits) (number n : ℕ) (place : Place) (sync : ℕ) (task : Task) (log : List LogEntry)

@@ -107,30 +107,62 @@ sent part sync a answer h = (refl, refl, refl, h)
 
 first_part : IsInLine (session 2) 1 (update 1000) (asked 1 1 (begin 1000) (Reply (reply.Ended [] 1)) ∷ []) None
 first_part =
-    subst (λ plan. InLineBy (session 2) 1 plan (asked 1 1 (begin 1000) (Reply (reply.Ended [] 1)) ∷ []) None) (sym plan-1000)
-    (((asked 1 1 (begin 1000) (Reply (reply.Ended [] 1)) ∷ []) ∷ []), refl,
-        inl ((((asked 1 1 (begin 1000) (Reply (reply.Ended [] 1)) ∷ []) ∷ []), refl,
-            (Reply (reply.Ended [] 1), (sent 1 1 (begin 1000) (Reply (reply.Ended [] 1)) (lit≤ tt, refl), λ h. absurd (cc)), (refl, refl))), refl))
+    subst (λ plan. InLineBy (session 2) 1 plan (asked 1 1 (begin 1000) (Reply (reply.Ended [] 1)) ∷ []) None) (sym plan-1000) (
+      ((asked 1 1 (begin 1000) (Reply (reply.Ended [] 1)) ∷ []) ∷ []),
+      refl,
+      inl (
+        (
+          ((asked 1 1 (begin 1000) (Reply (reply.Ended [] 1)) ∷ []) ∷ []),
+          refl,
+          (Reply (reply.Ended [] 1), (sent 1 1 (begin 1000) (Reply (reply.Ended [] 1)) (lit≤ tt, refl), λ h. absurd (cc)), (refl, refl)),
+        ),
+        refl,
+      ),
+    )
 
 second_part : IsInLine (session 2) 1 (update 1) (asked 0 2 (begin 1) (Reply (reply.Locked blocker)) ∷ asked 0 3 (begin 1) (Reply (reply.Locked blocker)) ∷ []) (Some LockedOut)
 second_part =
-    subst (λ plan. InLineBy (session 2) 1 plan (asked 0 2 (begin 1) (Reply (reply.Locked blocker)) ∷ asked 0 3 (begin 1) (Reply (reply.Locked blocker)) ∷ []) (Some LockedOut)) (sym plan-1)
-    (((asked 0 2 (begin 1) (Reply (reply.Locked blocker)) ∷ asked 0 3 (begin 1) (Reply (reply.Locked blocker)) ∷ []) ∷ []), refl,
-        inr ((((asked 0 2 (begin 1) (Reply (reply.Locked blocker)) ∷ asked 0 3 (begin 1) (Reply (reply.Locked blocker)) ∷ []) ∷ []), refl,
-            (Reply (reply.Locked blocker),
-                ((blocker, sent 0 2 (begin 1) (Reply (reply.Locked blocker)) (lit≤ tt, refl)), (sent 0 3 (begin 1) (Reply (reply.Locked blocker)) (lit≤ tt, refl), λ h. refl)),
-                (refl, refl, refl))), refl, refl))
+    subst (λ plan. InLineBy (session 2) 1 plan (asked 0 2 (begin 1) (Reply (reply.Locked blocker)) ∷ asked 0 3 (begin 1) (Reply (reply.Locked blocker)) ∷ []) (Some LockedOut)) (sym plan-1) (
+      ((asked 0 2 (begin 1) (Reply (reply.Locked blocker)) ∷ asked 0 3 (begin 1) (Reply (reply.Locked blocker)) ∷ []) ∷ []),
+      refl,
+      inr (
+        (
+          ((asked 0 2 (begin 1) (Reply (reply.Locked blocker)) ∷ asked 0 3 (begin 1) (Reply (reply.Locked blocker)) ∷ []) ∷ []),
+          refl,
+          (
+            Reply (reply.Locked blocker),
+            ((blocker, sent 0 2 (begin 1) (Reply (reply.Locked blocker)) (lit≤ tt, refl)), (sent 0 3 (begin 1) (Reply (reply.Locked blocker)) (lit≤ tt, refl), λ h. refl)),
+            (refl, refl, refl),
+          ),
+        ),
+        refl,
+        refl,
+      ),
+    )
 
 locked_out : FollowsInLine (session 2) (work ∷ []) log
-locked_out = (attempt ∷ [], record {
-  syncs = (refl, (refl, (refl, (refl, (refl, tt)))));
-  entries = refl;
-  attempts_are = (attempt ∷ [], [], refl,
-      (record {
-        of_work = refl;
-        numbered = refl;
-        parts_and_ending = (Some LockedOut,
+locked_out = (
+  attempt ∷ [],
+  record {
+    syncs = (refl, (refl, (refl, (refl, (refl, tt)))));
+    entries = refl;
+    attempts_are = (
+      attempt ∷ [],
+      [],
+      refl,
+      (
+        record {
+          of_work = refl;
+          numbered = refl;
+          parts_and_ending = (
+            Some LockedOut,
             inl (first_part, inr (second_part, refl, refl)),
-            ((sent 0 4 ask.EndUndo (Reply reply.Done) (lit≤ tt, refl), (sent 1 5 ask.EndUndo (Reply reply.Done) (lit≤ tt, refl), tt)), refl));
-      }, λ h. refl), refl);
-})
+            ((sent 0 4 ask.EndUndo (Reply reply.Done) (lit≤ tt, refl), (sent 1 5 ask.EndUndo (Reply reply.Done) (lit≤ tt, refl), tt)), refl),
+          );
+        },
+        λ h. refl,
+      ),
+      refl,
+    );
+  },
+)

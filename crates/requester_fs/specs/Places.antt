@@ -55,9 +55,12 @@ abbrev pub after_undo : ℕ → Bool → Place → Place
 after_undo patience true place = restarted patience place.restarts place
 after_undo patience false place = moved place Finished
 
--- a subset goes on after a redrive
+-- a subset goes on behind the last key of a redrive
+abbrev pub redriven : ℕ → Place → ℕ → List ℕ → Place
+redriven patience place subset last = record place { repeats = patience; stage = Continuing subset last }
+
 abbrev pub after_reply : ℕ → Place → PartitionReply → Place
-after_reply patience place (reply.Redrive subset last cause rows changed) = record place { repeats = patience; stage = Continuing subset last }
+after_reply patience place (reply.Redrive subset last cause rows changed) = redriven patience place subset last
 after_reply patience place (reply.Ended rows changed) = moved place Preparing
 after_reply patience place (reply.Locked lock) = repeated place.repeats place
 after_reply patience place other = moved place (Undoing false)

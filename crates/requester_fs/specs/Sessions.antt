@@ -1,5 +1,6 @@
 -- What contracts see of a session.
-use Rattle.std.specs.Prelude.{◌≡◌, ℕ, ◌-◌, List, [], ◌∷◌, ◌++◌, Bool, false, ◌↔◌}
+use Rattle.std.specs.Prelude.{◌≡◌, ◌<◌, ℕ, List, [], ◌∷◌, ◌++◌, Bool, false, ◌↔◌}
+use Rattle.sql_base.specs.Scripts.{parts_of}
 use Rattle.sql_base.specs.declared.lock_names.TxnName.{TxnName}
 use Rattle.sql_base.specs.declared.scripts.Limits.{Limits}
 use Rattle.sql_base.specs.declared.scripts.Script.{Script}
@@ -53,9 +54,21 @@ entries_kept (Sends part sync request) answer losses = Asked part sync request l
 entries_kept (Draws name floor) answer losses = Drew name floor answer ∷ []
 entries_kept Ends answer losses = []
 
--- the session is that of the script with this number: its log is the beginning of one that the script allows, and it has finished where it is whole
+-- a log is the beginning of one that the script allows
+abbrev pub Begins : Script → ℕ → List LogEntry → Type 0
+Begins script number log = (rest : List LogEntry) × in_line script number (log ++ rest)
+
+-- what is sent goes to one of the partitions
+abbrev pub IsWithin : ℕ → Next → Type 0
+IsWithin parts (Sends part sync request) = part < parts
+IsWithin parts (Draws name floor) = Unit {0}
+IsWithin parts Ends = Unit {0}
+
+-- the session is that of the script with this number: its log is the beginning of one that the script allows, also with whatever may come next, and it has finished where it is whole
 pub record IsSessionOf (script : Script) (number : ℕ) (s : Working) : Type 0 where
   pub limits : s.limits ≡ script.limits
   pub number_is : s.number ≡ number
-  pub goes_on : (rest : List LogEntry) × in_line script number (s.log ++ rest)
+  pub part : IsWithin (parts_of script.tables) s.next
+  pub begins : Begins script number s.log
+  pub goes_on : (answer : Answer) (losses : ℕ) → MayCome s.next answer losses → Begins script number (s.log ++ entries_kept s.next answer losses)
   pub ends_where_whole : (s.next ≡ Ends) ↔ in_line script number s.log

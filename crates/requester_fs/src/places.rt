@@ -1,5 +1,5 @@
 ghost use Rattle.std.specs.Prelude.{◌≡◌, ◌+◌, ◌<◌, ◌^◌, IfOk};
-ghost use Rattle.requester_fs.specs.Places.{begin, task_at, first_place, moved, repeated, after_undo, after_reply, after_row, after_prepare, after_draw, after};
+ghost use Rattle.requester_fs.specs.Places.{begin, task_at, first_place, moved, repeated, redriven, after_undo, after_reply, after_row, after_prepare, after_draw, after};
 
 use crate::logs::Answer;
 use dp_messages::{Ask, Reply, Request};
@@ -138,19 +138,32 @@ impl Place {
         ensures { IfOk result (λ place. place ≡ after_reply patience self.now reply.now) }
     {
         match reply {
-            Reply::Redrive { subset, last, .. } => Ok(Place {
-                ordinal: self.ordinal,
-                restarts: self.restarts,
-                repeats: patience,
-                stage: Stage::Continuing {
-                    subset: *subset,
-                    last: last.copied(alloc)?,
-                },
-            }),
+            Reply::Redrive { subset, last, .. } => {
+                self.after_redrive(alloc, patience, *subset, last)
+            }
             Reply::Ended { .. } => Ok(self.at(Stage::Preparing)),
             Reply::Locked(_) => self.after_locked(alloc),
             _ => Ok(self.at(Stage::Undoing { locked_out: false })),
         }
+    }
+
+    /// The subset goes on behind the last key.
+    fn after_redrive(
+        &self,
+        alloc: Global,
+        patience: u32,
+        subset: u32,
+        last: &Key,
+    ) -> Result<Place, NoMemory>
+        ensures { IfOk result (λ place. place ≡ redriven patience self.now subset last.now) }
+    {
+        let last = last.copied(alloc)?;
+        Ok(Place {
+            ordinal: self.ordinal,
+            restarts: self.restarts,
+            repeats: patience,
+            stage: Stage::Continuing { subset, last },
+        })
     }
 
     /// The same request goes out again, or the attempt fails.

@@ -1,7 +1,8 @@
-ghost use Rattle.std.specs.Prelude.{◌≡◌, ◌≤◌, ◌<◌, ◌+◌, ◌^◌, ℕ, List, [], ◌∷◌, ◌++◌, length, vec_len, IfOk, OnOk, OnErr};
+ghost use Rattle.std.specs.Prelude.{◌≡◌, ◌≤◌, ◌<◌, ◌+◌, ◌^◌, ℕ, List, [], ◌∷◌, ◌++◌, length, IsTrue, IfOk, OnOk, OnErr};
 ghost use Rattle.sql_base.specs.Scripts.{Lies};
 ghost use Rattle.sql_base.specs.declared.scripts.Script.{Script as AnyScript};
 ghost use Rattle.requester_fs.specs.Rows.{fits};
+ghost use Rattle.requester_fs.specs.declared.logs.Answer.TheVariants as came;
 ghost use Rattle.requester_fs.specs.Leading.{next_of, sync_after};
 ghost use Rattle.requester_fs.specs.Sessions.{Ends, shown, fits_next, MayCome, entries_kept, IsSessionOf};
 ghost use Rattle.requester_fs.specs.Thin.{IsThin};
@@ -94,8 +95,8 @@ impl Session {
         let sync = sync_after(self.sync, &self.task);
         let name = name(self.number, self.place.ordinal);
         let done = mem::replace(&mut self.task, task);
-        self.log
-            .push_reserved(entry(done, self.sync, name, answer, losses));
+        let kept = entry(done, self.sync, name, answer, losses);
+        self.log.push_reserved(kept);
         self.sync = sync;
         self.place = place;
         Ok(())
@@ -103,7 +104,8 @@ impl Session {
 
     /// Whether the next action is a Send to whose request this reply may come. It takes no memory.
     pub fn fits(&self, reply: &Reply) -> bool
-        ensures { result ≡ fits_next self.now.next reply.now }
+        ensures exact { result ≡ fits_next self.now.next reply.now }
+        ensures may_come { IsTrue result → (losses : ℕ) → losses ≤ 3 → MayCome self.now.next (came.Reply reply.now) losses }
     {
         match &self.task {
             Task::Send(request) => fits_ask(&request.ask, reply),
