@@ -28,7 +28,8 @@ are_limits limits h = record {
   buffer = rw h.buffer (omega arith, omega arith);
   patience = omega (arith, h.patience);
   servers = rw h.servers (omega arith, omega arith);
-  restart = omega (arith, h.restart) }
+  restart = omega (arith, h.restart);
+}
 
 two_columns : (t : TableDef) → IsThinTable t → length t.columns ≡ 2
 two_columns t h = sym (length-map t.columns (λ column. column.kind)) ∙ ap length h.columns
@@ -51,12 +52,13 @@ is_table t h = record {
   key_bytes = rw (h.key, h.columns) (omega arith);
   few_checks = rw h.checks (omega arith);
   checks = rw h.checks tt;
-  firsts = no_firsts t h }
+  firsts = no_firsts t h;
+}
 
 is_row : (t : TableDef) (row : List Value) → IsThinTable t → IsThinRow row → IsRow t row
 is_row t row h thin =
     rw (h.columns, thin.values) (and_from (nat_lt thin.key (2 ^ 63)) (nat_lt thin.number (2 ^ 63) && true) (lt-ltb thin.key (2 ^ 63) thin.key_fits)
-        (and_from (nat_lt thin.number (2 ^ 63)) true (lt-ltb thin.number (2 ^ 63) thin.number_fits) refl))
+    (and_from (nat_lt thin.number (2 ^ 63)) true (lt-ltb thin.number (2 ^ 63) thin.number_fits) refl))
 
 -- the key of a row is that of the number in its first column
 key_of_number : (t : TableDef) (row : List Value) → IsThinTable t → IsThinRow row → key_of t row ≡ key_value Int (value.Int (pos (thin.key_of row)))
@@ -72,9 +74,10 @@ are_rows t (row ∷ rows) h is = (is_row t row h is.0, are_rows t rows h is.1)
 keys_rise : (t : TableDef) (rows : List (List Value)) → IsThinTable t → AllByRecursion IsThinRow rows → thin.Rise rows → Rise (map (key_of t) rows)
 keys_rise t [] h is rise = tt
 keys_rise t (a ∷ []) h is rise = tt
-keys_rise t (a ∷ b ∷ rows) h is rise =
-    (rw (key_of_number t a h is.0, key_of_number t b h is.1.0) (int_keys-rise (thin.key_of a) (thin.key_of b) rise.0 (number_fits b is.1.0)),
-        keys_rise t (b ∷ rows) h is.1 rise.1)
+keys_rise t (a ∷ b ∷ rows) h is rise = (
+  rw (key_of_number t a h is.0, key_of_number t b h is.1.0) (int_keys-rise (thin.key_of a) (thin.key_of b) rise.0 (number_fits b is.1.0)),
+  keys_rise t (b ∷ rows) h is.1 rise.1,
+)
 
 pub are_records : (t : TableDef) (load : Load) → IsThinTable t → IsThinLoad load → AreRecords t load.rows
 are_records t load h is = (are_rows t load.rows h is.rows, keys_rise t load.rows h is.rows is.rise)
@@ -100,7 +103,7 @@ one_differs (load ∷ next ∷ loads) few = absurd (omega arith)
 is_scan : (t : TableDef) → IsThinTable t → IsStatement (t ∷ []) (Select 0 (0 ∷ 1 ∷ []) None Repeatable)
 is_scan t h =
     let both : AreColumns t (0 ∷ 1 ∷ []) =
-        record { some = omega arith; within = (omega (arith, two_columns t h), (omega (arith, two_columns t h), tt)); differ = refl } in
+    record { some = omega arith; within = (omega (arith, two_columns t h), (omega (arith, two_columns t h), tt)); differ = refl } in
     (t, refl, (both, tt))
 
 pub is_script : (script : Script) → IsThin script → IsScript script
@@ -115,4 +118,5 @@ is_script script h = record {
   some_sessions = rw h.sessions (omega arith, omega arith);
   some_works = rw h.sessions (omega arith, tt);
   works = rw (h.sessions, h.limits.restart) (omega arith);
-  statements = rw (h.sessions, h.tables) (((is_scan h.table h.thin, tt), tt), tt) }
+  statements = rw (h.sessions, h.tables) (((is_scan h.table h.thin, tt), tt), tt);
+}

@@ -31,10 +31,12 @@ is_fixed (word.Keyword k) (fixed.Keyword wanted) = bytes_eq (spelling k) (spelli
 is_fixed (word.Sign s) (fixed.Sign wanted) = bytes_eq (sign_spelling s) (sign_spelling wanted)
 is_fixed w f = false
 
+-- the name, where the word is one
 abbrev pub named : Word → Option (List ℕ)
 named (word.Name bytes) = Some bytes
 named w = None
 
+-- the number, where the word is one
 abbrev pub numbered : Word → Option ℕ
 numbered (word.Number n) = Some n
 numbered w = None
@@ -44,12 +46,15 @@ pub record Standing : Type 0 where
   pub awaited : List Fixed
   pub place : Place
 
+-- a state without where it lies in memory
 abbrev pub seen : State → Standing
 seen s = record { awaited = s.awaited.now; place = s.place }
 
+-- at this place, once these words have come
 abbrev pub behind : List Fixed → Place → Standing
 behind awaited p = record { awaited = awaited; place = p }
 
+-- the signs that are awaited
 abbrev pub open_sign : Fixed
 open_sign = fixed.Sign sign.Open
 
@@ -62,6 +67,7 @@ comma = fixed.Sign sign.Comma
 abbrev pub semicolon : Fixed
 semicolon = fixed.Sign sign.Semicolon
 
+-- before the table
 abbrev pub limit_step : LimitPlace → Word → Option Standing
 limit_step limit.Any w =
     if is_fixed w (fixed.Keyword keyword.Quantum) then Some (behind [] (place.Limit limit.Quantum))
@@ -82,9 +88,11 @@ table_named (table.Key quantum name first second) found =
     behind (close_sign ∷ close_sign ∷ semicolon ∷ [])
     (place.Load (load.Any (record { quantum = quantum; table = record { name = name; first = first; second = second; key = found } })))
 
+-- in the table
 abbrev pub table_step : TablePlace → Word → Option Standing
 table_step p w = option_map (table_named p) (named w)
 
+-- a LOAD, or the session
 abbrev pub after_table : RawHead → Word → Option Standing
 after_table head w =
     if is_fixed w (fixed.Keyword keyword.Load) then Some (behind [] (place.Load (load.Name head)))
@@ -92,6 +100,7 @@ after_table head w =
     then Some (behind (semicolon ∷ fixed.Keyword keyword.Select ∷ []) (place.Select (select.First head None)))
     else None)
 
+-- another row, or the end of the LOAD
 abbrev pub after_row : RawHead → RawLoad → Word → Option Standing
 after_row head l w =
     if is_fixed w comma then Some (behind (open_sign ∷ []) (place.Load (load.Key head l.table (l.earlier ++ l.last ∷ []))))
@@ -99,6 +108,7 @@ after_row head l w =
     then Some (behind (fixed.Keyword keyword.Session ∷ semicolon ∷ fixed.Keyword keyword.Select ∷ []) (place.Select (select.First head (Some l))))
     else None)
 
+-- behind the table
 abbrev pub load_step : LoadPlace → Word → Option Standing
 load_step (load.Any head) w = after_table head w
 load_step (load.Name head) w = option_map (λ name. behind (open_sign ∷ []) (place.Load (load.Key head name []))) (named w)
@@ -119,9 +129,11 @@ select_named (select.Table head l first second) found =
     ∷ fixed.Keyword keyword.Commit ∷ fixed.Keyword keyword.Work ∷ semicolon ∷ [])
     (place.End (record { head = head; load = l; select = record { first = first; second = second; table = found } }))
 
+-- in the SELECT
 abbrev pub select_step : SelectPlace → Word → Option Standing
 select_step p w = option_map (select_named p) (named w)
 
+-- the word at a place; nothing comes behind the script
 abbrev pub place_step : Place → Word → Option Standing
 place_step (place.Limit p) w = limit_step p w
 place_step (place.Table p) w = table_step p w
@@ -129,6 +141,7 @@ place_step (place.Load p) w = load_step p w
 place_step (place.Select p) w = select_step p w
 place_step (place.End raw) w = None
 
+-- a word where others are awaited is the first of them, or none
 abbrev pub step_at : List Fixed → Place → Word → Option Standing
 step_at [] p w = place_step p w
 step_at (f ∷ fs) p w = if is_fixed w f then Some (behind fs p) else None
@@ -137,10 +150,12 @@ step_at (f ∷ fs) p w = if is_fixed w f then Some (behind fs p) else None
 unfoldable pub step : Standing → Word → Option Standing
 step s w = step_at s.awaited s.place w
 
+-- the script, where it has ended
 abbrev pub script_at : Place → Option Raw
 script_at (place.End raw) = Some raw
 script_at p = None
 
+-- what was read, where nothing is awaited
 abbrev pub finish_at : List Fixed → Place → Option Raw
 finish_at [] p = script_at p
 finish_at (f ∷ fs) p = None
@@ -149,10 +164,12 @@ finish_at (f ∷ fs) p = None
 abbrev pub finish : Standing → Option Raw
 finish s = finish_at s.awaited s.place
 
+-- reading on from a state
 unfoldable pub read_from : Standing → List Token → Option Raw
 read_from s [] = finish s
 read_from s (t ∷ ts) = option_and_then (λ next. read_from next ts) (step s t.word)
 
+-- nothing is read yet
 abbrev pub start : Standing
 start = behind [] (place.Limit limit.Any)
 

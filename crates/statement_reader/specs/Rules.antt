@@ -16,6 +16,7 @@ IsQuantum (Some n) = (1 ≤ n) × (n ≤ 1000)
 abbrev pub IsShort : List ℕ → Type 0
 IsShort name = length name ≤ 30
 
+-- short names, two different columns, and the first of them the key
 pub record IsTable (t : RawTable) : Type 0 where
   pub name : IsShort t.name
   pub first : IsShort t.first
@@ -43,6 +44,7 @@ pub record AreRows (rows : List RawRow) : Type 0 where
 abbrev pub rows_of : RawLoad → List RawRow
 rows_of l = l.earlier ++ l.last ∷ []
 
+-- a LOAD of the table
 pub record IsLoad (t : RawTable) (l : RawLoad) : Type 0 where
   pub table : l.table ≡ t.name
   pub few : length (rows_of l) ≤ 4000
@@ -59,6 +61,7 @@ pub record IsSelect (t : RawTable) (s : RawSelect) : Type 0 where
   pub second : s.second ≡ t.second
   pub table : s.table ≡ t.name
 
+-- every rule of a thin script
 pub record MeetsRules (raw : Raw) : Type 0 where
   pub quantum : IsQuantum raw.head.quantum
   pub table : IsTable raw.head.table

@@ -25,6 +25,7 @@ pub record SpelledBy (words : List Word) (script : Script) : Type 0 where
   pub rules : MeetsRules raw
   pub meant : script ≡ script_of raw
 
+-- the bytes are within the limit, and their words are those of the script
 pub record Spells (text : List ℕ) (script : Script) : Type 0 where
   pub within : length text ≤ limit
   pub tokens : List Token
@@ -41,10 +42,11 @@ Reads (Err (faults.Script fault)) script = ⊥
 abbrev pub too_large : List ℕ → ScriptFault
 too_large text = record { line = line_of text limit; column = column_of text limit; reason = TooLarge }
 
--- the refusal of bytes that spell no script, which says nothing of them but that
+-- bytes within the limit, of which no more is said than that they spell no script
 abbrev pub not_yet : ScriptFault
 not_yet = record { line = 1; column = 1; reason = NotYet }
 
+-- the one refusal of bytes that spell no script
 pub record IsFault (text : List ℕ) (fault : ScriptFault) : Type 0 where
   pub beyond : limit < length text → fault ≡ too_large text
   pub within : length text ≤ limit → fault ≡ not_yet

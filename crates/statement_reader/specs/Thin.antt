@@ -52,6 +52,7 @@ Rise [] = Unit {0}
 Rise (a ∷ []) = Unit {0}
 Rise (a ∷ b ∷ rows) = (key_of a < key_of b) × Rise (b ∷ rows)
 
+-- the records of the one table, at most 4,000
 pub record IsThinLoad (load : Load) : Type 0 where
   pub table : load.table ≡ 0
   pub some : 0 < length load.rows
@@ -63,6 +64,7 @@ pub record IsThinLoad (load : Load) : Type 0 where
 abbrev pub scan_work : Work
 scan_work = record { statements = Select 0 (0 ∷ 1 ∷ []) None Repeatable ∷ []; commit = true }
 
+-- one table, one LOAD of it at most, and one session with one scan
 pub record IsThin (script : Script) : Type 0 where
   pub limits : AreThinLimits script.limits
   pub table : TableDef

@@ -31,6 +31,7 @@ pub struct ScriptFault {
     pub reason: Reason,
 }
 
+/// Why no script was read: a fault of the bytes, or want of memory.
 #[derive(Clone, Copy, Debug, PartialEq, Eq, Error)]
 pub enum ReadFault {
     #[error("line {} column {}: {:?}", .0.line, .0.column, .0.reason)]

@@ -12,6 +12,7 @@ pub enum Fixed {
     Sign(Sign),
 }
 
+/// Whether the word is this fixed one.
 pub fn is_fixed(word: &Word, fixed: Fixed) -> bool
     ensures { result ≡ is_fixed word.now fixed }
 {

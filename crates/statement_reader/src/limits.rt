@@ -5,6 +5,7 @@ use crate::fixed_words::{Fixed, is_fixed, number_of};
 use crate::places::{LimitPlace, Place, State, TablePlace};
 use statement_words::{Keyword, Sign, Word};
 
+/// A word before the table.
 pub fn limit_step(place: LimitPlace, word: &Word) -> Option<State>
     ensures { option_map seen result ≡ limit_step place word.now }
 {

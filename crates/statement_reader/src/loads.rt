@@ -79,6 +79,7 @@ fn after_row(head: RawHead, load: RawLoad, word: &Word) -> Result<Option<State>,
     }
 }
 
+/// A word behind the table.
 pub fn load_step(alloc: Global, place: LoadPlace, word: &Word) -> Result<Option<State>, NoMemory>
     ensures { IfOk result (λ next. option_map seen next ≡ load_step place word.now) }
 {

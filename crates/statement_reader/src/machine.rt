@@ -12,6 +12,7 @@ use sql_base::NoMemory;
 use statement_words::{Token, Word};
 use std::alloc::Global;
 
+/// A word at a place.
 fn place_step(alloc: Global, place: Place, word: &Word) -> Result<Option<State>, NoMemory>
     ensures { IfOk result (λ next. option_map seen next ≡ place_step place word.now) }
 {

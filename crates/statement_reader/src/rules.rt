@@ -56,6 +56,7 @@ fn row_holds(last: Option<u64>, row: RawRow) -> bool
     above && row.key < NUMBER_END && row.value < NUMBER_END
 }
 
+/// Whether the numbers of the rows fit and their keys strictly rise.
 fn rows_hold(earlier: &[RawRow], last: RawRow) -> bool
     ensures { result ≡ rows_hold None (earlier.now ++ last ∷ []) }
 {
@@ -75,6 +76,7 @@ fn rows_rise(load: &RawLoad) -> bool
     rows_hold(load.earlier.items(), load.last)
 }
 
+/// Whether the LOAD is one of this table.
 fn load_holds(table: &RawTable, load: &RawLoad) -> bool
     ensures { IsTrue result ↔ IsLoad table.now load.now }
 {
@@ -98,6 +100,7 @@ fn select_holds(table: &RawTable, select: &RawSelect) -> bool
         && is_same(&select.table, &table.name)
 }
 
+/// Whether what is written meets every rule of a thin script.
 pub fn meets_rules(raw: &Raw) -> bool
     ensures { IsTrue result ↔ MeetsRules raw.now }
 {

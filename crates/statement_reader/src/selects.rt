@@ -22,6 +22,7 @@ const BEHIND_TABLE: [Fixed; 7] = [
     Fixed::Sign(Sign::Semicolon),
 ];
 
+/// A word in the SELECT, at a name.
 pub fn select_step(
     alloc: Global,
     place: SelectPlace,

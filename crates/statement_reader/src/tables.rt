@@ -26,6 +26,7 @@ const BEHIND_KEY: [Fixed; 3] = [
     Fixed::Sign(Sign::Semicolon),
 ];
 
+/// A word in the table, at a name.
 pub fn table_step(alloc: Global, place: TablePlace, word: &Word) -> Result<Option<State>, NoMemory>
     ensures { IfOk result (λ next. option_map seen next ≡ table_step place word.now) }
 {

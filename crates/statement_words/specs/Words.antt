@@ -25,6 +25,7 @@ is_separator b = b == 32 || b == 9 || b == 10 || b == 13
 abbrev pub is_name_byte : ℕ → Bool
 is_name_byte b = is_ascii_alphanumeric b || b == 95
 
+-- a name that is a keyword is that keyword
 abbrev pub keyword_or_name : Option Keyword → List ℕ → Word
 keyword_or_name (Some k) bytes = word.Keyword k
 keyword_or_name None bytes = word.Name bytes
@@ -39,6 +40,7 @@ abbrev pub decimal_from : ℕ → List ℕ → ℕ
 decimal_from n [] = n
 decimal_from n (d ∷ ds) = decimal_from (n * 10 + (d - 48)) ds
 
+-- the number that decimal digits spell
 abbrev pub decimal : List ℕ → ℕ
 decimal digits = decimal_from 0 digits
 
@@ -58,13 +60,16 @@ pub record TextState : Type 0 where
   pub text : List ℕ
   pub quoted : Bool
 
+-- whether the text goes on behind a byte, and its state then
 pub record TextStep : Type 0 where
   pub goes : Bool
   pub state : TextState
 
+-- the text goes on
 abbrev pub text_goes : List ℕ → Bool → Result TextStep Place
 text_goes text quoted = Ok (record { goes = true; state = record { text = text; quoted = quoted } })
 
+-- the quote before this byte has closed the text
 abbrev pub text_ends : List ℕ → Result TextStep Place
 text_ends text = Ok (record { goes = false; state = record { text = text; quoted = false } })
 
@@ -77,6 +82,7 @@ text_step at n s b =
     else (if nat_le 32 b && nat_le b 126 then text_goes (s.text ++ b ∷ []) false
     else fails BadByte (at + n))))
 
+-- the rest of a text that begins at `at`, with n bytes of it before
 unfoldable pub text_from : ℕ → ℕ → TextState → List ℕ → Result Inside Place
 text_from at n s [] = if s.quoted then Ok (record { text = s.text; len = n }) else fails OpenText at
 text_from at n s (b ∷ bs) = text_step at n s b >>= λ next.
@@ -88,14 +94,16 @@ text_at at bytes = do
   x ← text_from at 1 (record { text = []; quoted = false }) bytes
   if nat_lt 255 (length x.text) then fails TextTooLong at else Ok (record { word = word.Text x.text; len = x.len })
 
+-- a sign of n bytes
 abbrev pub sign : Sign → ℕ → Result Piece Place
 sign s n = Ok (record { word = word.Sign s; len = n })
 
--- the longest sign that begins with `<`, or with `>`, by the bytes behind it
+-- the longest sign that begins with `<`, by the bytes behind it
 abbrev pub less_at : List ℕ → Result Piece Place
 less_at [] = sign Less 1
 less_at (c ∷ cs) = if c == 61 then sign AtMost 2 else (if c == 62 then sign Unequal 2 else sign Less 1)
 
+-- the longest sign that begins with `>`
 abbrev pub greater_at : List ℕ → Result Piece Place
 greater_at [] = sign Greater 1
 greater_at (c ∷ cs) = if c == 61 then sign AtLeast 2 else sign Greater 1
@@ -131,6 +139,7 @@ pub record Words : Type 0 where
   pub tokens : List Token
   pub skip : ℕ
 
+-- one token more, on the bytes from `at` on
 abbrev pub with_word : List Token → ℕ → Piece → Words
 with_word tokens at x = record { tokens = tokens ++ record { word = x.word; first = at; end = at + x.len } ∷ []; skip = x.len - 1 }
 
@@ -145,6 +154,7 @@ fresh at tokens (b ∷ bs) =
 abbrev pub words_step : ℕ → Words → List ℕ → Result Words Place
 words_step at s bytes = if nat_lt 0 s.skip then Ok (record { tokens = s.tokens; skip = s.skip - 1 }) else fresh at s.tokens bytes
 
+-- the words of the bytes from `at` on, behind those that were read
 unfoldable pub words_from : ℕ → Words → List ℕ → Result (List Token) Place
 words_from at s [] = Ok s.tokens
 words_from at s (b ∷ bs) = words_step at s (b ∷ bs) >>= λ next. words_from (at + 1) next bs
