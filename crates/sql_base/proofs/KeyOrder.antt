@@ -26,14 +26,17 @@ highest_split (suc k) n = rw (pow-succ' 256 (suc k)) (mod-mul n (omega arith) (p
 lower : (x y p r s : ℕ) → x < y → r < p → x * p + r < y * p + s
 lower x y p r s lt below = omega (arith, mul-le (suc x) p y p lt (omega arith))
 
+-- two keys whose first bytes differ
 first_less : (x y : ℕ) (xs ys : List ℕ) → x < y → key_lt (x ∷ xs) (y ∷ ys) ≡ true
 first_less x y xs ys lt = rw (lt-ltb x y lt)
 
+-- two keys with one first byte
 first_same : (x y : ℕ) (xs ys : List ℕ) → x ≡ y → key_lt xs ys ≡ true → key_lt (x ∷ xs) (y ∷ ys) ≡ true
 first_same x y xs ys e lt = grind (arith, nat_tests)
 
 -- one byte more in front, x and y, over the numbers r and s of the bytes behind it
-step : (x y p r s : ℕ) (xs ys : List ℕ) → r < p → s < p → (r < s → key_lt xs ys ≡ true) → x * p + r < y * p + s → (x ≡ y) ⊎ ((x < y) ⊎ (y < x)) → key_lt (x ∷ xs) (y ∷ ys) ≡ true
+step : (x y p r s : ℕ) (xs ys : List ℕ) → r < p → s < p → (r < s → key_lt xs ys ≡ true)
+    → x * p + r < y * p + s → (x ≡ y) ⊎ ((x < y) ⊎ (y < x)) → key_lt (x ∷ xs) (y ∷ ys) ≡ true
 step x y p r s xs ys rp sp rest lt (inl e) = first_same x y xs ys e (rest (omega (arith, ap (λ z. z * p) e)))
 step x y p r s xs ys rp sp rest lt (inr (inl less)) = first_less x y xs ys less
 step x y p r s xs ys rp sp rest lt (inr (inr more)) = absurd (omega (arith, lower y x p s r more sp))
@@ -43,7 +46,8 @@ pub bytes_high_first-rise : (k n m : ℕ) → n % 256 ^ k < m % 256 ^ k → key_
 bytes_high_first-rise zero n m lt = absurd (omega (arith, mod-one n, mod-one m))
 bytes_high_first-rise (suc k) n m lt =
     step (byte_at k n) (byte_at k m) (256 ^ k) (n % 256 ^ k) (m % 256 ^ k) (bytes_high_first k n) (bytes_high_first k m)
-    (mod_below n (256 ^ k) (pow_pos k)) (mod_below m (256 ^ k) (pow_pos k)) (bytes_high_first-rise k n m) (rw (← highest_split k n, ← highest_split k m) lt) (cases_order (byte_at k n) (byte_at k m))
+    (mod_below n (256 ^ k) (pow_pos k)) (mod_below m (256 ^ k) (pow_pos k)) (bytes_high_first-rise k n m) (rw (← highest_split k n, ← highest_split k m) lt)
+    (cases_order (byte_at k n) (byte_at k m))
 
 -- where a number stands among all of 64 bits
 abbrev place : ℤ → ℕ

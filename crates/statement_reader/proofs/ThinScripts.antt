@@ -1,13 +1,13 @@
 -- A thin script meets the rules of every script.
-use Rattle.std.proofs.Common.{◌≡◌, ℕ, ◌+◌, ◌≤◌, ◌<◌, ◌^◌, pos, List, [], ◌∷◌, ◌++◌, length, map, true, ◌&&◌, None, Some, refl, sym, ap, ◌∙◌, subst, arith}
+use Rattle.std.proofs.Common.{◌≡◌, ◌≤◌, ◌<◌, ◌^◌, pos, List, [], ◌∷◌, length, map, true, ◌&&◌, None, refl, sym, ap, ◌∙◌, arith}
 use Rattle.std.proofs.lemmas.Bool.{lt-ltb, and_from}
-use Rattle.std.proofs.lemmas.List.{length-map, append-nil}
+use Rattle.std.proofs.lemmas.List.{length-map}
 use Rattle.std.specs.Prelude.{nat_eq, nat_lt}
 use Rattle.std.specs.List.{AllByRecursion}
 use Rattle.sql_base.proofs.KeyOrder.{int_keys-rise}
-use Rattle.sql_base.specs.Keys.{Rise, key_lt}
+use Rattle.sql_base.specs.Keys.{Rise}
 use Rattle.sql_base.specs.OnRows.{first_failing}
-use Rattle.sql_base.specs.Rows.{kinds, key_value, key_of, IsRow, AreRecords}
+use Rattle.sql_base.specs.Rows.{key_value, key_of, IsRow, AreRecords}
 use Rattle.sql_base.specs.Tables.{all_differ, AreColumns, AreFirsts, IsTable, IsStatement}
 use Rattle.sql_base.specs.Scripts.{AreLimits, IsLoad, IsScript}
 use Rattle.sql_base.specs.declared.scripts.Limits.{Limits}
@@ -31,6 +31,7 @@ are_limits limits h = record {
   restart = omega (arith, h.restart);
 }
 
+-- its two kinds are of two columns
 two_columns : (t : TableDef) → IsThinTable t → length t.columns ≡ 2
 two_columns t h = sym (length-map t.columns (λ column. column.kind)) ∙ ap length h.columns
 
@@ -56,14 +57,15 @@ is_table t h = record {
 }
 
 is_row : (t : TableDef) (row : List Value) → IsThinTable t → IsThinRow row → IsRow t row
-is_row t row h thin =
-    rw (h.columns, thin.values) (and_from (nat_lt thin.key (2 ^ 63)) (nat_lt thin.number (2 ^ 63) && true) (lt-ltb thin.key (2 ^ 63) thin.key_fits)
-    (and_from (nat_lt thin.number (2 ^ 63)) true (lt-ltb thin.number (2 ^ 63) thin.number_fits) refl))
+is_row t row h is =
+    rw (h.columns, is.values) (and_from (nat_lt is.key (2 ^ 63)) (nat_lt is.number (2 ^ 63) && true) (lt-ltb is.key (2 ^ 63) is.key_fits)
+    (and_from (nat_lt is.number (2 ^ 63)) true (lt-ltb is.number (2 ^ 63) is.number_fits) refl))
 
 -- the key of a row is that of the number in its first column
 key_of_number : (t : TableDef) (row : List Value) → IsThinTable t → IsThinRow row → key_of t row ≡ key_value Int (value.Int (pos (thin.key_of row)))
 key_of_number t row h is = rw (h.key, h.columns, is.values) refl
 
+-- it fits 64 bits
 number_fits : (row : List Value) → IsThinRow row → thin.key_of row < 2 ^ 63
 number_fits row is = rw is.values is.key_fits
 
@@ -82,6 +84,7 @@ keys_rise t (a ∷ b ∷ rows) h is rise = (
 pub are_records : (t : TableDef) (load : Load) → IsThinTable t → IsThinLoad load → AreRecords t load.rows
 are_records t load h is = (are_rows t load.rows h is.rows, keys_rise t load.rows h is.rows is.rise)
 
+-- it has no CHECK
 meets_checks : (t : TableDef) (rows : List (List Value)) → IsThinTable t → AllByRecursion (λ row. first_failing t.checks row ≡ None) rows
 meets_checks t [] h = tt
 meets_checks t (row ∷ rows) h = (rw h.checks refl, meets_checks t rows h)
