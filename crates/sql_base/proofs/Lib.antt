@@ -1,4 +1,5 @@
 pub mod Choosing
 pub mod KeyColumns
 pub mod Trees
+pub mod UnpackedLength
 mod WorkedRows
