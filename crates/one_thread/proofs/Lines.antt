@@ -31,7 +31,7 @@ behind_two first named all a b words e f =
 pub behind_three : (first placed all a b c : List ℕ) (words : List (List ℕ)) → placed ≡ ((first ++ 0x20 ∷ a) ++ 0x20 ∷ b) ++ 0x20 ∷ c → all ≡ placed ++ spaced words → all ≡ first ++ spaced (a ∷ b ∷ c ∷ words)
 behind_three first placed all a b c words e f =
     behind_two first ((first ++ 0x20 ∷ a) ++ 0x20 ∷ b) all a b (c ∷ words) refl
-      (f ∙ ap (λ (bytes : List ℕ). bytes ++ spaced words) e ∙ append_assoc ((first ++ 0x20 ∷ a) ++ 0x20 ∷ b) (0x20 ∷ c) (spaced words))
+    (f ∙ ap (λ (bytes : List ℕ). bytes ++ spaced words) e ∙ append_assoc ((first ++ 0x20 ∷ a) ++ 0x20 ∷ b) (0x20 ∷ c) (spaced words))
 
 -- a word and then a key behind a blank
 pub then_key : (old first word key : List ℕ) → first ≡ old ++ 0x20 ∷ word → first ++ 0x20 ∷ key ≡ old ++ spaced (word ∷ key ∷ [])

@@ -74,7 +74,8 @@ fn put_unpacked(
 {
     match unpack(alloc, row, kinds) {
         Ok(row) => put_values(out, row.values()),
-        Err(UnpackFault::WrongLength | UnpackFault::NotPrintable) => Ok(()),
+        Err(UnpackFault::WrongLength) => Ok(()),
+        Err(UnpackFault::NotPrintable) => Ok(()),
         Err(UnpackFault::NoMemory) => Err(NoMemory),
     }
 }

@@ -9,5 +9,5 @@ pub returns : goal.returns
 returns c =
     let first : iter_rest (zip_first c.into_iter-table-iterator.result) ≡ c.args.tables.now = search rules in
     let second : iter_rest (zip_second c.into_iter-table-iterator.result) ≡ c.args.records.now = search rules in
-    let n = zip_end c.args.tables.now c.args.records.now c.loop-table.yielded c.into_iter-table-iterator.result c.loop-table.table-iterator _ _ first second c.loop-table.yielded_by c.in-None.is c.next.ensures.steps in
+    let n = zip_end c.args.tables.now c.args.records.now c.loop-table.yielded c.into_iter-table-iterator.result c.loop-table.table-iterator c.next.new.self c.next.result first second c.loop-table.yielded_by c.in-None.is c.next.ensures.steps in
     whole _ _ _ _ (ended c.args.tables.now c.args.records.now (length c.loop-table.yielded) n) c.loop-table.invariant
