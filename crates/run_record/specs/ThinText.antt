@@ -1,13 +1,15 @@
 -- The attempts that a session's log tells of, where each transaction is one SELECT.
-use Rattle.std.specs.Prelude.{ℕ, ◌==◌, List, [], ◌∷◌, map, filter, flat_map, fold, slice_get, Option, Some, None, option_map, unwrap_or, if◌then◌else◌}
-use Rattle.std.specs.List.{last_or, range_with_len}
+use Rattle.std.specs.Prelude.{ℕ, ◌-◌, ◌==◌, length, List, [], ◌∷◌, map, filter, flat_map, fold, slice_get, Option, Some, None, option_map, unwrap_or, if◌then◌else◌}
+use Rattle.std.specs.List.{range_with_len}
 use Rattle.sql_base.specs.Rows.{kinds}
 use Rattle.sql_base.specs.declared.outcomes.Abort.{Abort}
 use Rattle.sql_base.specs.declared.outcomes.Given.TheVariants.{Rows}
 use Rattle.sql_base.specs.declared.outcomes.Outcome.{Outcome}
 use Rattle.sql_base.specs.declared.outcomes.Outcome.TheVariants.{Committed, RolledBack, Aborted}
+use Rattle.sql_base.specs.declared.scripts.Load.{Load}
 use Rattle.sql_base.specs.declared.scripts.Script.{Script}
 use Rattle.sql_base.specs.declared.tables.ColumnKind.{ColumnKind}
+use Rattle.sql_base.specs.declared.values.Value.{Value}
 use Rattle.one_thread.specs.declared.shown.Shown.{Shown}
 use Rattle.requester_fs.specs.Rows.{failure, is_end}
 use Rattle.requester_fs.specs.declared.logs.Answer.TheVariants.{Stamp}
@@ -42,9 +44,13 @@ attempt_shown session kinds log ordinal =
     let entries = entries_of ordinal log in
     record { session = session; ordinal = ordinal; outcome = fold outcome_after RolledBack entries; given = Rows kinds (flat_map entry_rows entries) ∷ [] }
 
+-- the ordinal of the last entry
+abbrev pub last_ordinal : List LogEntry → ℕ
+last_ordinal log = unwrap_or (option_map ordinal_of (slice_get log (length log - 1))) 0
+
 -- the attempts up to the last entry's
 abbrev pub attempts_shown : ℕ → List ColumnKind → List LogEntry → List Shown
-attempts_shown session kinds log = map (attempt_shown session kinds log) (range_with_len 1 (last_or 0 (map ordinal_of log)))
+attempts_shown session kinds log = map (attempt_shown session kinds log) (range_with_len 1 (last_ordinal log))
 
 -- the kinds of the columns of the first table
 abbrev pub first_kinds : Script → List ColumnKind
@@ -53,3 +59,11 @@ first_kinds script = unwrap_or (option_map kinds (slice_get script.tables 0)) []
 -- what the one session of a record shows
 abbrev pub thin_shown : Script → RunRecord → List Shown
 thin_shown script kept = attempts_shown 1 (first_kinds script) (log_of kept 1)
+
+-- the LOAD rows of a table
+abbrev pub load_rows : List Load → ℕ → List (List Value)
+load_rows loads table = flat_map (λ load. if load.table == table then load.rows else []) loads
+
+-- the LOAD rows of each table, which are its records as long as only SELECTs run
+abbrev pub loaded_records : Script → List (List (List Value))
+loaded_records script = map (load_rows script.loads) (range_with_len 0 (length script.tables))

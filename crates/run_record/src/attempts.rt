@@ -1,9 +1,8 @@
-ghost use Rattle.std.specs.Prelude.{◌≡◌, ◌++◌, IfOk, OnOk, flat_map, fold, map};
-ghost use Rattle.std.specs.List.{last_or};
+ghost use Rattle.std.specs.Prelude.{◌≡◌, ◌++◌, IfOk, OnOk, flat_map, fold};
 ghost use Rattle.sql_base.specs.declared.outcomes.Outcome.TheVariants.{RolledBack};
 ghost use Rattle.requester_fs.specs.Rows.{failure, is_end};
 ghost use Rattle.run_record.specs.Serial.{entry_rows};
-ghost use Rattle.run_record.specs.ThinText.{attempt_shown, attempts_shown, entries_of, ordinal_of, outcome_after};
+ghost use Rattle.run_record.specs.ThinText.{attempt_shown, attempts_shown, entries_of, last_ordinal, ordinal_of, outcome_after};
 ghost use Rattle.run_record.specs.Tiles.{reply_rows};
 
 use dp_messages::{Ask, Reply};
@@ -54,7 +53,7 @@ fn shown_attempt(
 }
 
 fn last_ordinal(log: &[LogEntry]) -> u32
-    ensures { result ≡ last_or 0 (map ordinal_of log.now) }
+    ensures { result ≡ last_ordinal log.now }
 {
     match log.last() {
         Some(entry) => ordinal_of(entry),

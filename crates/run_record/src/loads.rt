@@ -1,12 +1,12 @@
-ghost use Rattle.std.specs.Prelude.{◌≡◌, ◌++◌, ◌==◌, [], IfOk, OnOk, flat_map, if◌then◌else◌};
-ghost use Rattle.one_thread.specs.One.{loaded};
+ghost use Rattle.std.specs.Prelude.{◌≡◌, ◌++◌, IfOk, OnOk};
+ghost use Rattle.run_record.specs.ThinText.{load_rows, loaded_records};
 
 use sql_base::{List, Load, NoMemory, Row, Script};
 use std::alloc::Global;
 
 /// The LOAD rows of each table, in the order of the tables.
 pub fn loaded_records(alloc: Global, script: &Script) -> Result<List<List<Row>>, NoMemory>
-    ensures { IfOk result (λ records. records ≡ (loaded script.now).records) }
+    ensures { IfOk result (λ records. records ≡ loaded_records script.now) }
 {
     let mut records = List::new(alloc);
     for (place, _table) in script.tables.items().iter().enumerate() {
@@ -16,7 +16,7 @@ pub fn loaded_records(alloc: Global, script: &Script) -> Result<List<List<Row>>,
 }
 
 fn loaded_rows(alloc: Global, loads: &[Load], table: usize) -> Result<List<Row>, NoMemory>
-    ensures { IfOk result (λ rows. rows ≡ flat_map (λ load. if load.table == table then load.rows else []) loads.now) }
+    ensures { IfOk result (λ rows. rows ≡ load_rows loads.now table) }
 {
     let mut rows = List::new(alloc);
     for load in loads {

@@ -2,4 +2,5 @@ pub mod Choosing
 pub mod KeyColumns
 pub mod KeyOrder
 pub mod Trees
+pub mod UnpackedLength
 mod WorkedRows

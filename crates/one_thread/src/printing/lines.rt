@@ -1,7 +1,7 @@
 ghost use Rattle.std.specs.Prelude.{◌≡◌, ◌++◌, ◌∷◌, [], OnOk, codes, decimal, flat_map, map};
 ghost use Rattle.one_thread.specs.Text.{abort_words, fault_word, line, outcome_words, table_text, value_text};
 
-use crate::printing::words::{put_key, put_number, put_values};
+use crate::printing::words::{put_key, put_name, put_number, put_values};
 use crate::shown::Shown;
 use sql_base::{Abort, Fault, NoMemory, Outcome, Row, TableDef};
 
@@ -11,8 +11,7 @@ pub fn put_attempt(out: &mut Vec<u8>, shown: &Shown) -> Result<(), NoMemory>
         ++ line ((codes "TXN" ∷ decimal shown.now.session ∷ decimal shown.now.ordinal ∷ []) ++ outcome_words shown.now.outcome)) }
 {
     out.extend_from_slice(b"TXN")?;
-    put_number(out, u64::from(shown.session))?;
-    put_number(out, u64::from(shown.ordinal))?;
+    put_name(out, shown.session, shown.ordinal)?;
     put_outcome(out, &shown.outcome)?;
     out.push(b'\n')?;
     Ok(())

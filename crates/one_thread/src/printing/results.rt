@@ -2,7 +2,7 @@ ghost use Rattle.std.specs.Prelude.{◌≡◌, ◌++◌, ◌∷◌, [], OnOk, co
 ghost use Rattle.sql_base.specs.Rows.{unpacked};
 ghost use Rattle.one_thread.specs.Text.{given_text, givens_text, line, value_text, values_of};
 
-use crate::printing::words::{put_number, put_values};
+use crate::printing::words::{put_name, put_number, put_values};
 use crate::shown::Shown;
 use sql_base::{ColumnKind, Given, List, NoMemory, Packed, UnpackFault, unpack};
 use std::alloc::Global;
@@ -74,7 +74,8 @@ fn put_unpacked(
 {
     match unpack(alloc, row, kinds) {
         Ok(row) => put_values(out, row.values()),
-        Err(UnpackFault::WrongLength | UnpackFault::NotPrintable) => Ok(()),
+        Err(UnpackFault::WrongLength) => Ok(()),
+        Err(UnpackFault::NotPrintable) => Ok(()),
         Err(UnpackFault::NoMemory) => Err(NoMemory),
     }
 }
@@ -94,7 +95,6 @@ fn put_place(out: &mut Vec<u8>, place: Place) -> Result<(), NoMemory>
     ensures { OnOk result (out.new.items ≡ out.old.items
         ++ 0x20 ∷ decimal place.session ++ 0x20 ∷ decimal place.ordinal ++ 0x20 ∷ decimal place.statement) }
 {
-    put_number(out, u64::from(place.session))?;
-    put_number(out, u64::from(place.ordinal))?;
+    put_name(out, place.session, place.ordinal)?;
     put_number(out, place.statement)
 }

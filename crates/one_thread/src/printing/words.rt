@@ -1,4 +1,4 @@
-ghost use Rattle.std.specs.Prelude.{◌≡◌, ◌<◌, ◌++◌, ◌∷◌, OnOk, decimal, flat_map};
+ghost use Rattle.std.specs.Prelude.{◌≡◌, ◌<◌, ◌++◌, ◌∷◌, [], OnOk, decimal, flat_map};
 ghost use Rattle.one_thread.specs.Text.{hex_digit, int_text, key_text, quoted, value_text};
 
 use itoa::Buffer;
@@ -12,6 +12,14 @@ pub fn put_number(out: &mut Vec<u8>, number: u64) -> Result<(), NoMemory>
     out.push(b' ')?;
     out.extend_from_slice(digits.format(number).as_bytes())?;
     Ok(())
+}
+
+/// Adds the session and the ordinal of an attempt, each behind a blank.
+pub fn put_name(out: &mut Vec<u8>, session: u32, ordinal: u32) -> Result<(), NoMemory>
+    ensures { OnOk result (out.new.items ≡ out.old.items ++ 0x20 ∷ decimal session ++ 0x20 ∷ decimal ordinal) }
+{
+    put_number(out, u64::from(session))?;
+    put_number(out, u64::from(ordinal))
 }
 
 /// Adds a blank and the key in hexadecimal.
