@@ -1,4 +1,8 @@
+ghost use Rattle.std.specs.Prelude.{◌≡◌, IfOk};
+
 use crate::bytes::Prefix;
+use crate::faults::NoMemory;
+use std::alloc::Global;
 
 /// The mode of a lock: shared or exclusive.
 #[derive(Clone, Copy, Debug, PartialEq, Eq)]
@@ -31,4 +35,17 @@ pub struct Lock {
     pub holder: TxnName,
     pub prefix: Prefix,
     pub mode: Mode,
+}
+
+impl Lock {
+    /// A copy of its own, equal to this one.
+    pub fn copied(&self, alloc: Global) -> Result<Lock, NoMemory>
+        ensures { IfOk result (λ copy. copy ≡ self.now) }
+    {
+        Ok(Lock {
+            holder: self.holder,
+            prefix: self.prefix.copied(alloc)?,
+            mode: self.mode,
+        })
+    }
 }
