@@ -4,7 +4,10 @@ use sql_base::{Cause, Fault, Key, List, Lock, Packed};
 #[derive(Debug, Drop)]
 pub enum QuantumReply {
     /// The subset is handled to its end.
-    Ended { rows: List<Packed>, changed: u32 },
+    Ended {
+        rows: List<Packed>,
+        changed: u32,
+    },
     /// The quantum stopped after the key `last`.
     Redrive {
         last: Key,
@@ -15,5 +18,8 @@ pub enum QuantumReply {
     /// The first candidate is blocked.
     Locked(Lock),
     /// The first candidate faults.
-    Failed { key: Key, fault: Fault },
+    Failed {
+        key: Key,
+        fault: Fault,
+    },
 }
