@@ -1,5 +1,6 @@
 -- What a change makes of a partition, and what a judgement says of a request.
-use Rattle.std.specs.Prelude.{ℕ, zero, suc, ◌-◌, List, [], ◌∷◌, ◌++◌, length, filter, map, max, Option, Some, None, not}
+use Rattle.std.specs.Prelude.{ℕ, zero, suc, ◌-◌, List, [], ◌∷◌, ◌++◌, length, filter, map, max, Option, Some, None, false, not, ◌≡◌, ◌==◌}
+use Rattle.std.specs.List.{list_any}
 use Rattle.sql_base.specs.Locks.{granted, released, same_txn}
 use Rattle.sql_base.specs.declared.lock_names.Access.{Access}
 use Rattle.sql_base.specs.declared.lock_names.Access.TheVariants.{Browse, Stable, Repeatable}
@@ -14,7 +15,7 @@ use Rattle.quantum_core.specs.declared.replies.QuantumReply.{QuantumReply}
 use Rattle.quantum_core.specs.declared.works.SetWork.{SetWork}
 use Rattle.partition_core.specs.State.{State, enlisted}
 use Rattle.partition_core.specs.Step.{Answered, ended, mode_of, prepared}
-use Rattle.partition_core.specs.Contents.{Parts, note_at}
+use Rattle.partition_core.specs.Contents.{Parts, ReadsColumns, note_at}
 use Rattle.partition_core.specs.declared.changes.Change.{Change}
 use Rattle.partition_core.specs.declared.changes.Change.TheVariants.{Stays, Begins, Advances, Closes, Prepares, Commits}
 use Rattle.partition_core.specs.declared.changes.Judgement.{Judgement}
@@ -70,3 +71,16 @@ granule_wanted block granule access = None
 -- a quantum that changed nothing
 abbrev pub still_handled : State → QuantumReply → Handled
 still_handled p reply = record { reply = reply; cells = p.cells; locks = p.locks }
+
+-- an opened block reads columns that each cell has, and its number is free
+abbrev pub FitsOpened : Parts → Option (Numbered SetWork) → Type 0
+FitsOpened q None = Unit {0}
+FitsOpened q (Some b) = ReadsColumns q.cells b × (list_any (λ c. c.number == b.number) q.blocks ≡ false)
+
+abbrev pub IsFitting : Parts → Change → Type 0
+IsFitting q Stays = Unit {0}
+IsFitting q (Begins granule opened) = FitsOpened q opened
+IsFitting q (Advances subset last) = Unit {0}
+IsFitting q (Closes subset) = Unit {0}
+IsFitting q Prepares = Unit {0}
+IsFitting q (Commits stamp) = Unit {0}

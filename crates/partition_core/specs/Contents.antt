@@ -1,5 +1,5 @@
 -- What the fields of a partition mean.
-use Rattle.std.specs.Prelude.{◌≡◌, ◌<◌, ◌≤◌, ℕ, ◌+◌, ◌-◌, List, [], ◌∷◌, ◌++◌, length, map, replicate, slice_get, slice_set, All, Option, Some, None, option_map, option_and_then, false, vec_len, vec_capacity}
+use Rattle.std.specs.Prelude.{◌≡◌, ◌<◌, ◌≤◌, ℕ, ◌+◌, List, [], ◌∷◌, ◌++◌, length, map, replicate, slice_get, slice_set, All, Option, Some, None, option_map, option_and_then, false, vec_len, vec_capacity}
 use Rattle.std.specs.List.{AllByRecursion}
 use Rattle.sql_base.specs.Rows.{key_width, are_of_kinds}
 use Rattle.sql_base.specs.declared.lock_names.Lock.{Lock}
@@ -58,13 +58,6 @@ state_of q =
 abbrev pub kept_of : Parts → Kept
 kept_of q =
     record { opening = record { table = q.table; place = q.place; limits = q.limits; cells = q.cells; locks = []; blocks = []; openers = replicate 8 new_opener; lives = []; high = 0 }; now = state_of q; history = q.history }
-
-abbrev pub last_of : Parts → ℕ → ℕ
-last_of q opener = last_in (slice_get q.seats (opener - 1))
-  where
-    last_in : Option Seat → ℕ
-    last_in None = 0
-    last_in (Some seat) = seat.last
 
 -- an entry noted at its opener's seat
 abbrev pub note_at : ℕ → ℕ → Seat → Seat

@@ -2,7 +2,7 @@
 ghost use Rattle.std.specs.Prelude.{◌≡◌, ◌<◌, length, All, IfOk, Some, None, option_copied};
 ghost use Rattle.quantum_core.specs.Walk.{IsRead, HasColumns};
 ghost use Rattle.partition_core.specs.Contents.{state_of, parts_of, AreStill, reading};
-ghost use Rattle.partition_core.specs.Changes.{tells, granule_wanted, still_handled};
+ghost use Rattle.partition_core.specs.Changes.{tells, IsFitting, granule_wanted, still_handled};
 ghost use Rattle.partition_core.specs.State.{with_live};
 ghost use Rattle.partition_core.specs.Step.{begin, begins, first_quantum, after_first, against_granule, are_columns_here, mode_of};
 ghost use Rattle.subset_blocks.specs.Blocks.{most_blocks};
@@ -28,8 +28,9 @@ impl Contents {
         columns: &List<u8>,
     ) -> Result<Judgement, NoMemory>
         requires still { AreStill (parts_of self.now) }
-        ensures { IfOk result (λ j. tells (state_of (parts_of self.now)) t j
+        ensures told { IfOk result (λ j. tells (state_of (parts_of self.now)) t j
             ≡ begin (state_of (parts_of self.now)) t access granule.now range.now (are_columns_here (state_of (parts_of self.now)) columns.now) (Some (reading columns.now))) }
+        ensures fits { IfOk result (λ j. IsFitting (parts_of self.now) j.change) }
     {
         if !self.are_columns_here(columns.items()) || !self.is_shaped(range, granule) {
             return Ok(refusal(Reply::BadShape));
@@ -60,9 +61,10 @@ impl Contents {
         requires reads { IsRead block.work }
         requires rows { All (HasColumns block.work) self.now.cells.items }
         requires few { length self.now.blocks.items < most_blocks }
-        ensures { let q = with_live (state_of (parts_of self.now)) block.holder in
+        ensures told { let q = with_live (state_of (parts_of self.now)) block.holder in
             IfOk result (λ j. tells (state_of (parts_of self.now)) block.holder j
             ≡ first_quantum q block granule.now (against_granule q block granule.now block.access)) }
+        ensures fits { IfOk result (λ j. IsFitting (parts_of self.now) j.change) }
     {
         if let Some(lock) = self.against_granule(&block, granule) {
             return Ok(begun(Reply::Locked(lock.copied(alloc)?)));
@@ -103,9 +105,12 @@ impl Contents {
         granule: &Prefix,
         reply: QuantumReply,
     ) -> Result<Judgement, NoMemory>
+        requires reads { IsRead block.work }
+        requires rows { All (HasColumns block.work) self.now.cells.items }
         requires few { length self.now.blocks.items < most_blocks }
-        ensures { IfOk result (λ j. tells (state_of (parts_of self.now)) block.holder j
+        ensures told { IfOk result (λ j. tells (state_of (parts_of self.now)) block.holder j
             ≡ after_first (with_live (state_of (parts_of self.now)) block.holder) block granule.now (still_handled (state_of (parts_of self.now)) reply) reply) }
+        ensures fits { IfOk result (λ j. IsFitting (parts_of self.now) j.change) }
     {
         match reply {
             QuantumReply::Ended { rows, changed } => Ok(Judgement {

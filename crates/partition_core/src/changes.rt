@@ -2,7 +2,7 @@
 ghost use Rattle.std.specs.Prelude.{◌≡◌, ◌<◌, vec_len, vec_capacity};
 ghost use Rattle.sql_base.specs.Scripts.{Lies};
 ghost use Rattle.subset_blocks.specs.Blocks.{NumbersDiffer};
-ghost use Rattle.partition_core.specs.Contents.{parts_of, AreStill, HasRoom};
+ghost use Rattle.partition_core.specs.Contents.{parts_of, HasRoom};
 ghost use Rattle.partition_core.specs.Changes.{changed, locks_with, blocks_with};
 
 use crate::contents::Contents;
@@ -50,7 +50,6 @@ impl Contents {
     /// Makes the change, for which there is room.
     pub fn apply(&mut self, t: TxnName, change: Change)
         requires opener { Lies 1 8 t.session }
-        requires still { AreStill (parts_of self.old) }
         requires numbers { NumbersDiffer self.old.blocks.items }
         requires room { HasRoom self.old }
         ensures state { parts_of self.new ≡ changed (parts_of self.old) t change }

@@ -3,7 +3,7 @@ ghost use Rattle.std.specs.Prelude.{◌≡◌, IfOk};
 ghost use Rattle.sql_base.specs.Keys.{key_eq};
 ghost use Rattle.subset_blocks.specs.Blocks.{find_block};
 ghost use Rattle.partition_core.specs.Contents.{state_of, parts_of, AreStill, AreReads};
-ghost use Rattle.partition_core.specs.Changes.{tells};
+ghost use Rattle.partition_core.specs.Changes.{tells, IsFitting};
 ghost use Rattle.partition_core.specs.Step.{goes_on, kept_key};
 
 use crate::changes::{Change, Judgement, refusal};
@@ -25,8 +25,9 @@ impl Contents {
     ) -> Result<Judgement, NoMemory>
         requires still { AreStill (parts_of self.now) }
         requires reads { AreReads (parts_of self.now) }
-        ensures { IfOk result (λ j. tells (state_of (parts_of self.now)) t j
+        ensures told { IfOk result (λ j. tells (state_of (parts_of self.now)) t j
             ≡ goes_on (state_of (parts_of self.now)) last.now (find_block subset t self.now.blocks.items)) }
+        ensures fits { IfOk result (λ j. IsFitting (parts_of self.now) j.change) }
     {
         let Some(numbered) = find_block(&self.blocks, subset, t) else {
             return Ok(refusal(Reply::NoSubset));
@@ -34,9 +35,7 @@ impl Contents {
         let block = &numbered.block;
         let kept = kept_key(&block.start);
         if !is_key(kept, last) {
-            return Ok(refusal(Reply::WrongKey {
-                kept: kept.copied(alloc)?,
-            }));
+            return Ok(refusal(wrong_key(alloc, kept)?));
         }
         let reply = read_quantum(
             alloc,
@@ -88,6 +87,14 @@ fn kept_key(start: &Start) -> &Key
         Start::At(low) => low,
         Start::After(last) => last,
     }
+}
+
+fn wrong_key(alloc: Global, kept: &Key) -> Result<Reply, NoMemory>
+    ensures { IfOk result (λ reply. reply ≡ Reply.WrongKey kept.now) }
+{
+    Ok(Reply::WrongKey {
+        kept: kept.copied(alloc)?,
+    })
 }
 
 fn is_key(a: &Key, b: &Key) -> bool

@@ -1,7 +1,7 @@
 //! Prepare, and the end by commit.
 ghost use Rattle.std.specs.Prelude.{◌≡◌};
 ghost use Rattle.partition_core.specs.Contents.{state_of, parts_of};
-ghost use Rattle.partition_core.specs.Changes.{tells};
+ghost use Rattle.partition_core.specs.Changes.{tells, IsFitting};
 ghost use Rattle.partition_core.specs.Step.{prepare, end_commit};
 
 use crate::changes::{Change, Judgement, refusal};
@@ -13,7 +13,8 @@ use sql_base::TxnName;
 impl Contents {
     /// Gives the floor above which the transaction's stamp has to be.
     pub fn prepare(&self, t: TxnName) -> Judgement
-        ensures { tells (state_of (parts_of self.now)) t result ≡ prepare (state_of (parts_of self.now)) t }
+        ensures told { tells (state_of (parts_of self.now)) t result ≡ prepare (state_of (parts_of self.now)) t }
+        ensures fits { IsFitting (parts_of self.now) result.change }
     {
         if !is_live(&self.lives, t) {
             return refusal(Reply::NotKnown);
@@ -29,7 +30,8 @@ impl Contents {
 
     /// Ends the transaction by commit.
     pub fn end_commit(&self, t: TxnName, stamp: u64) -> Judgement
-        ensures { tells (state_of (parts_of self.now)) t result ≡ end_commit (state_of (parts_of self.now)) t stamp }
+        ensures told { tells (state_of (parts_of self.now)) t result ≡ end_commit (state_of (parts_of self.now)) t stamp }
+        ensures fits { IsFitting (parts_of self.now) result.change }
     {
         if !is_live(&self.lives, t) {
             return refusal(Reply::NotKnown);

@@ -2,7 +2,7 @@
 ghost use Rattle.std.specs.Prelude.{◌≡◌, ◌<◌, ◌≤◌, IfOk, slice_index_or};
 ghost use Rattle.sql_base.specs.Scripts.{Lies};
 ghost use Rattle.partition_core.specs.Contents.{state_of, parts_of, AreStill, AreReads};
-ghost use Rattle.partition_core.specs.Changes.{tells};
+ghost use Rattle.partition_core.specs.Changes.{tells, IsFitting};
 ghost use Rattle.partition_core.specs.Kept.{IsServed};
 ghost use Rattle.partition_core.specs.Step.{answered, by_kind, is_closing, unless_prepared};
 
@@ -20,7 +20,8 @@ impl Contents {
         requires served { IsServed ask.now }
         requires still { AreStill (parts_of self.now) }
         requires reads { AreReads (parts_of self.now) }
-        ensures { IfOk result (λ j. tells (state_of (parts_of self.now)) t j ≡ answered (state_of (parts_of self.now)) t ask.now) }
+        ensures told { IfOk result (λ j. tells (state_of (parts_of self.now)) t j ≡ answered (state_of (parts_of self.now)) t ask.now) }
+        ensures fits { IfOk result (λ j. IsFitting (parts_of self.now) j.change) }
     {
         let ended = self.seats[t.session as usize - 1].ended;
         if t.ordinal <= ended {
@@ -47,7 +48,8 @@ impl Contents {
         requires served { IsServed ask.now }
         requires still { AreStill (parts_of self.now) }
         requires reads { AreReads (parts_of self.now) }
-        ensures { IfOk result (λ j. tells (state_of (parts_of self.now)) t j ≡ unless_prepared (state_of (parts_of self.now)) t ask.now (Some floor)) }
+        ensures told { IfOk result (λ j. tells (state_of (parts_of self.now)) t j ≡ unless_prepared (state_of (parts_of self.now)) t ask.now (Some floor)) }
+        ensures fits { IfOk result (λ j. IsFitting (parts_of self.now) j.change) }
     {
         if is_closing(ask) {
             self.judge_kind(alloc, t, ask)
@@ -60,7 +62,8 @@ impl Contents {
         requires served { IsServed ask.now }
         requires still { AreStill (parts_of self.now) }
         requires reads { AreReads (parts_of self.now) }
-        ensures { IfOk result (λ j. tells (state_of (parts_of self.now)) t j ≡ by_kind (state_of (parts_of self.now)) t ask.now) }
+        ensures told { IfOk result (λ j. tells (state_of (parts_of self.now)) t j ≡ by_kind (state_of (parts_of self.now)) t ask.now) }
+        ensures fits { IfOk result (λ j. IsFitting (parts_of self.now) j.change) }
     {
         match ask {
             Ask::BeginRead {

@@ -1,5 +1,5 @@
 //! The locks of a partition, in table order.
-ghost use Rattle.std.specs.Prelude.{◌≡◌, ◌<◌, vec_len, vec_capacity};
+ghost use Rattle.std.specs.Prelude.{◌≡◌, ◌<◌, insert, vec_len, vec_capacity};
 ghost use Rattle.std.specs.List.{list_any};
 ghost use Rattle.sql_base.specs.Locks.{covers, granted, lock_cmp, mode_cmp, placed, released};
 

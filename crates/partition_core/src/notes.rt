@@ -1,9 +1,10 @@
 //! One new request: judged, with all memory taken, before the first change.
 ghost use Rattle.std.specs.Prelude.{◌≡◌, ◌<◌, ◌++◌, ◌∷◌, [], OnOk, OnErr, vec_len, vec_capacity};
 ghost use Rattle.sql_base.specs.Scripts.{Lies};
-ghost use Rattle.partition_core.specs.Contents.{parts_of, kept_of, last_of, IsServing, HasRoom};
+ghost use Rattle.partition_core.specs.Contents.{parts_of, state_of, kept_of, IsServing, HasRoom};
 ghost use Rattle.partition_core.specs.Changes.{noted_parts};
 ghost use Rattle.partition_core.specs.Kept.{IsServed, served};
+ghost use Rattle.partition_core.specs.State.{opener_of};
 
 use crate::changes::Judgement;
 use crate::contents::Contents;
@@ -22,7 +23,7 @@ impl Contents {
         request: &Request,
     ) -> Result<(), NoMemory>
         requires opener { Lies 1 8 opener }
-        requires fresh { last_of (parts_of self.old) opener < sync }
+        requires fresh { (opener_of (state_of (parts_of self.old)) opener).last < sync }
         requires served { IsServed request.now.ask }
         requires serving { IsServing (parts_of self.old) }
         ensures ok { OnOk result (kept_of (parts_of self.new) ≡ served (kept_of (parts_of self.old)) opener sync request.now) }

@@ -93,7 +93,8 @@ fn key_width(table: &TableDef) -> usize
     let columns = table.columns.items();
     let mut sum = 0;
     for column in table.key.items() {
-        sum += width_of(columns[*column as usize].kind);
+        let at = *column as usize;
+        sum += width_of(columns[at].kind);
     }
     sum
 }

@@ -1,5 +1,6 @@
 //! Whether what a request names fits the table and the partition.
-ghost use Rattle.std.specs.Prelude.{◌≡◌};
+ghost use Rattle.std.specs.Prelude.{◌≡◌, nat_lt};
+ghost use Rattle.std.specs.List.{list_all};
 ghost use Rattle.partition_core.specs.Contents.{state_of, parts_of, AreStill};
 ghost use Rattle.partition_core.specs.Step.{is_key_here, is_shaped, are_columns_here};
 
@@ -31,6 +32,12 @@ impl Contents {
         ensures { result ≡ are_columns_here (state_of (parts_of self.now)) columns.now }
     {
         let count = self.table.columns.items().len();
-        columns.len() > 0 && columns.iter().all(|column| (*column as usize) < count)
+        !columns.is_empty() && are_below(columns, count)
     }
+}
+
+fn are_below(columns: &[u8], count: usize) -> bool
+    ensures { result ≡ list_all (λ c. nat_lt c count) columns.now }
+{
+    columns.iter().all(|column| (*column as usize) < count)
 }

@@ -1,0 +1,4 @@
+use Rattle.partition_core.proofs.contents.Contents.first_quantum.Goals as goal
+
+pub returns-clause-told : goal.returns-clause-told
+returns-clause-told c = ?
