@@ -22,13 +22,13 @@ pub kept-push : {X : Type 0} (P : X → Type 0) (xs : List X) (x : X) → AllByR
 kept-push P [] x h hx = (hx, tt)
 kept-push P (y ∷ xs) x h hx = (h.0, kept-push P xs x h.1 hx)
 
+found_at : {X : Type 0} (P : X → Type 0) (x y : X) (rest : Option X) (b : Bool) → P y → (rest ≡ Some x → P x) → cond b (Some y) rest ≡ Some x → P x
+found_at P x y rest true h later e = let same : y ≡ x = cc in subst P same h
+found_at P x y rest false h later e = later e
+
 pub found_has : {X : Type 0} (P : X → Type 0) (p : X → Bool) (xs : List X) (x : X) → AllByRecursion P xs → find p xs ≡ Some x → P x
 found_has P p [] x h e = absurd (cc)
-found_has P p (y ∷ xs) x h e = found_at (p y) e
-  where
-    found_at : (b : Bool) → cond b (Some y) (find p xs) ≡ Some x → P x
-    found_at true e = let same : y ≡ x = cc in subst P same h.0
-    found_at false e = found_has P p xs x h.1 e
+found_has P p (y ∷ xs) x h e = found_at P x y (find p xs) (p y) h.0 (λ later. found_has P p xs x h.1 later) e
 
 or_left : (a b : Bool) → (a || b) ≡ false → a ≡ false
 or_left true b h = h

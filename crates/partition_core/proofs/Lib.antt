@@ -6,3 +6,5 @@ pub mod Serving
 pub mod Begun
 pub mod Placing
 pub mod Finding
+pub mod Judged
+pub mod Opened

@@ -36,13 +36,13 @@ no_change (Selected (Gives row)) h = refl
 no_change (Selected (Becomes row)) h = absurd (false≢true (sym h))
 no_change (Selected Goes) h = absurd (false≢true (sym h))
 
+either_way : (o : Option (Option (List Value))) (b : Bool) → cond b o o ≡ o
+either_way o true = refl
+either_way o false = refl
+
 change_at-none : (key : List ℕ) (js : List Judged) → AllByRecursion IsStill js → change_at key js ≡ None
 change_at-none key [] h = refl
-change_at-none key (j ∷ js) h = rw (no_change j.verdict h.0, change_at-none key js h.1) (both (key_eq j.key key))
-  where
-    both : (b : Bool) → cond b None None ≡ None
-    both true = refl
-    both false = refl
+change_at-none key (j ∷ js) h = rw (no_change j.verdict h.0, change_at-none key js h.1) (either_way None (key_eq j.key key))
 
 cells_after-same : (t : TxnName) (js : List Judged) (cells : List Cell) → AllByRecursion IsStill js → cells_after t js cells ≡ cells
 cells_after-same t js [] h = refl

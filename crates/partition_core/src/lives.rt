@@ -63,9 +63,20 @@ pub fn set_floor(lives: &mut Vec<Live>, t: TxnName, floor: u64)
     ensures { lives.new.items ≡ map (prepared t floor) lives.old.items }
 {
     for live in lives.iter_mut() {
-        if live.name == t {
-            live.floor = Some(floor);
+        *live = prepared(*live, t, floor);
+    }
+}
+
+fn prepared(live: Live, t: TxnName, floor: u64) -> Live
+    ensures { result ≡ prepared t floor live }
+{
+    if live.name == t {
+        Live {
+            name: live.name,
+            floor: Some(floor),
         }
+    } else {
+        live
     }
 }
 

@@ -1,4 +1,4 @@
-use Rattle.std.proofs.Common.{◌<◌, ◌-◌, length, ap, arith, rules, None}
+use Rattle.std.proofs.Common.{◌<◌, ◌-◌, length, refl, ap, arith, rules, None}
 use Rattle.partition_core.specs.Contents.{Parts, parts_of}
 use Rattle.partition_core.specs.declared.contents.Seat.{Seat}
 use Rattle.partition_core.proofs.Seats.{set-at_seat}

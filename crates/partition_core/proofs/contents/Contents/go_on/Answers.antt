@@ -49,4 +49,4 @@ returns-in_ok-copied-in-Redrive-clause-told c =
         ∙ ap (λ (cells : List Cell). (quantum self.limits self.table cells c.deref-3.result.now b.block).reply) c.deref-2.ensures.value
         ∙ ap (λ (locks : List Lock). (quantum self.limits self.table self.cells.items locks b.block).reply) c.deref-3.ensures.value in
     let goes_on_after : List ℕ → Answered = λ last. record { reply = Redrive b.number c.in-Redrive.last c.in-Redrive.cause c.in-Redrive.rows c.in-Redrive.changed; state = record p { blocks = advanced b.number last p.blocks } } in
-    next-told p c.args.last.now _ b _ _ found right has.0 told (ap goes_on_after c.in_ok-copied.ensures)
+    next-told p c.args.last.now _ b _ _ found right has.0 told (ap goes_on_after c.in_ok-copied-in-Redrive.ensures)
