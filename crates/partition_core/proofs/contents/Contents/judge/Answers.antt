@@ -1,13 +1,12 @@
-use Rattle.std.proofs.Common.{◌≡◌, ◌<◌, ◌-◌, length, None, ap, sym, ◌∙◌, arith, rules, not, ◌&&◌}
+use Rattle.std.proofs.Common.{◌≡◌, ◌<◌, ◌-◌, length, Some, None, ap, sym, ◌∙◌, arith, rules, not, ◌&&◌}
 use Rattle.std.specs.Prelude.{find, option_and_then, ◌==◌}
 use Rattle.std.proofs.lemmas.Grind.{common_steps}
-use Rattle.std.proofs.lemmas.Result.{IfOk-weaker}
 use Rattle.sql_base.specs.Locks.{same_txn}
 use Rattle.partition_core.specs.Contents.{state_of, parts_of}
 use Rattle.partition_core.specs.Changes.{tells}
 use Rattle.partition_core.specs.declared.contents.Seat.{Seat}
 use Rattle.partition_core.specs.declared.lives.Live.{Live}
-use Rattle.partition_core.proofs.Judged.{not_ended, judged-other, judged-floor}
+use Rattle.partition_core.proofs.Judged.{not_ended, judged-other, answered-if}
 use Rattle.partition_core.proofs.contents.Contents.judge.Goals as goal
 
 pub returns-in-Some-clause-told : goal.returns-in-Some-clause-told
@@ -30,7 +29,7 @@ returns-in-Some-floor_of-clause-told c =
     let none : None ≡ c.other_live.result = grind (arith, common_steps) in
     let alone = none ∙ c.other_live.ensures ∙ ap (find (λ (l : Live). (l.name.session == t.session) && not (l.name.ordinal == t.ordinal))) c.deref.ensures.value in
     let floor = sym c.in-Some-floor_of.is ∙ c.floor_of.ensures ∙ ap (λ ls. option_and_then (λ (l : Live). l.floor) (find (λ (l : Live). same_txn l.name t) ls)) c.deref-2.ensures.value in
-    IfOk-weaker c.judge_prepared.result _ _ (λ j told. told ∙ judged-floor (state_of q) t c.args.ask.now _ new alone floor) c.judge_prepared.ensures.told
+    answered-if (state_of q) t c.args.ask.now (Some c.in-Some-floor_of.floor) c.judge_prepared.result new alone floor c.judge_prepared.ensures.told
 
 pub returns-in-None-clause-told : goal.returns-in-None-clause-told
 returns-in-None-clause-told c =
@@ -42,4 +41,4 @@ returns-in-None-clause-told c =
     let none : None ≡ c.other_live.result = grind (arith, common_steps) in
     let alone = none ∙ c.other_live.ensures ∙ ap (find (λ (l : Live). (l.name.session == t.session) && not (l.name.ordinal == t.ordinal))) c.deref.ensures.value in
     let floor = sym c.in-None.is ∙ c.floor_of.ensures ∙ ap (λ ls. option_and_then (λ (l : Live). l.floor) (find (λ (l : Live). same_txn l.name t) ls)) c.deref-2.ensures.value in
-    IfOk-weaker c.judge_kind.result _ _ (λ j told. told ∙ judged-floor (state_of q) t c.args.ask.now _ new alone floor) c.judge_kind.ensures.told
+    answered-if (state_of q) t c.args.ask.now None c.judge_kind.result new alone floor c.judge_kind.ensures.told
