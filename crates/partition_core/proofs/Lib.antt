@@ -1,1 +1,11 @@
+pub mod Begun
+pub mod Blocks
+pub mod Finding
+pub mod Judged
+pub mod Opened
+pub mod Placing
+pub mod ReadQuanta
+pub mod Replays
+pub mod Seats
+pub mod Serving
 mod WorkedRows

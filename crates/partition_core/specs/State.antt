@@ -1,5 +1,5 @@
 -- What a partition keeps.
-use Rattle.std.specs.Prelude.{ℕ, ◌-◌, List, [], map, filter, find, replicate, Option, Some, None, option_and_then, unwrap_or, slice_get, slice_set, Bool, false, not, ◌==◌}
+use Rattle.std.specs.Prelude.{ℕ, ◌-◌, List, [], ◌∷◌, ◌++◌, map, filter, find, replicate, Option, Some, None, option_and_then, unwrap_or, slice_get, slice_set, Bool, false, not, ◌==◌, if◌then◌else◌}
 use Rattle.std.specs.List.{list_any}
 use Rattle.sql_base.specs.Locks.{same_txn}
 use Rattle.sql_base.specs.Rows.{key_of}
@@ -9,9 +9,10 @@ use Rattle.sql_base.specs.declared.scripts.Limits.{Limits}
 use Rattle.sql_base.specs.declared.tables.TableDef.{TableDef}
 use Rattle.sql_base.specs.declared.values.Value.{Value}
 use Rattle.key_sequenced.specs.declared.Cell.{Cell}
-use Rattle.subset_blocks.specs.Blocks.{Numbered}
+use Rattle.subset_blocks.specs.declared.Numbered.{Numbered}
 use Rattle.quantum_core.specs.declared.works.SetWork.{SetWork}
 use Rattle.dp_messages.specs.declared.replies.Reply.{Reply}
+use Rattle.partition_core.specs.declared.lives.Live.{Live}
 
 -- what is kept of an opener: its last sync, whether want of memory starved that one, the reply to it, and its last ended ordinal
 pub record Opener : Type 0 where
@@ -19,11 +20,6 @@ pub record Opener : Type 0 where
   pub starved : Bool
   pub kept : Option Reply
   pub ended : ℕ
-
--- a live transaction, with its floor once it has prepared
-pub record Live : Type 0 where
-  pub name : TxnName
-  pub floor : Option ℕ
 
 -- a partition: its table, its place among the table's partitions, and all that requests change
 pub record State : Type 0 where
@@ -61,3 +57,11 @@ is_live p t = list_any (λ l. same_txn l.name t) p.lives
 -- the floor with which t has prepared here
 abbrev pub floor_of : State → TxnName → Option ℕ
 floor_of p t = option_and_then (λ l. l.floor) (find (λ l. same_txn l.name t) p.lives)
+
+-- the live transactions with t among them
+abbrev pub enlisted : TxnName → List Live → List Live
+enlisted t lives = if list_any (λ l. same_txn l.name t) lives then lives else lives ++ record { name = t; floor = None } ∷ []
+
+-- the partition with t live in it
+abbrev pub with_live : State → TxnName → State
+with_live p t = record p { lives = enlisted t p.lives }

@@ -23,8 +23,9 @@ use Rattle.sql_base.specs.declared.values.Value.{Value}
 use Rattle.partition_map.specs.Map.{part_of}
 use Rattle.key_sequenced.specs.Cells.{find_cell, inserted, restored, settled}
 use Rattle.key_sequenced.specs.declared.Cell.{Cell}
-use Rattle.subset_blocks.specs.Blocks.{Numbered, most_blocks, free_number, find_block, opened, advanced, closed, closed_of}
+use Rattle.subset_blocks.specs.Blocks.{most_blocks, free_number, find_block, opened, advanced, closed, closed_of}
 use Rattle.subset_blocks.specs.declared.Block.{Block}
+use Rattle.subset_blocks.specs.declared.Numbered.{Numbered}
 use Rattle.quantum_core.specs.Quantum.{Handled, quantum}
 use Rattle.quantum_core.specs.declared.replies.QuantumReply.{QuantumReply}
 use Rattle.quantum_core.specs.declared.replies.QuantumReply.TheVariants as answers
@@ -36,7 +37,8 @@ use Rattle.dp_messages.specs.declared.replies.Reply.TheVariants.{Ended, Redrive,
 use Rattle.dp_messages.specs.declared.requests.Ask.{Ask}
 use Rattle.dp_messages.specs.declared.requests.Ask.TheVariants.{BeginRead, BeginUpdate, BeginDelete, Continue, ReadKey, Insert, LockGranule, Prepare, EndCommit, EndUndo}
 use Rattle.dp_messages.specs.declared.requests.Request.{Request}
-use Rattle.partition_core.specs.State.{State, Opener, Live, opener_of, with_opener, is_live, floor_of}
+use Rattle.partition_core.specs.State.{State, Opener, opener_of, with_opener, is_live, floor_of, with_live}
+use Rattle.partition_core.specs.declared.lives.Live.{Live}
 
 -- a reply, and the partition after it
 pub record Answered : Type 0 where
@@ -76,10 +78,6 @@ abbrev pub may_change : Access → Bool
 may_change Browse = false
 may_change Stable = true
 may_change Repeatable = true
-
--- the partition with t live in it
-abbrev pub with_live : State → TxnName → State
-with_live p t = if is_live p t then p else record p { lives = p.lives ++ record { name = t; floor = None } ∷ [] }
 
 abbrev pub mode_of : Doing → Mode
 mode_of (Read columns) = S

@@ -1,6 +1,21 @@
 //! A partition and its history: what the Disk Process of one partition keeps, and how it serves a request.
 #![tactic(auto)]
 
+mod begins;
+mod changes;
+mod contents;
+mod continues;
+mod ends;
 mod entries;
+mod judges;
+mod lives;
+mod locks;
+mod notes;
+mod openings;
+mod partitions;
+mod shapes;
+#[cfg(test)]
+mod tests;
 
 pub use entries::Entry;
+pub use partitions::{Partition, Pick, Served};

@@ -1,15 +1,11 @@
 -- The subsets under way, by their numbers.
-use Rattle.std.specs.Prelude.{ℕ, ◌+◌, ◌==◌, List, [], ◌∷◌, ◌++◌, length, map, find, filter, Option, unwrap_or, not, ◌&&◌, if◌then◌else◌}
+use Rattle.std.specs.Prelude.{◌≡◌, ℕ, ◌+◌, ◌==◌, List, [], ◌∷◌, ◌++◌, length, map, find, filter, Option, unwrap_or, false, not, ◌&&◌, if◌then◌else◌}
 use Rattle.std.specs.List.{list_any, range_with_len}
 use Rattle.sql_base.specs.Locks.{same_txn}
 use Rattle.sql_base.specs.declared.lock_names.TxnName.{TxnName}
 use Rattle.sql_base.specs.declared.key_ranges.Start.TheVariants.{After}
 use Rattle.subset_blocks.specs.declared.Block.{Block}
-
--- a block with its number
-pub record Numbered (W : Type 0) : Type 0 where
-  pub number : ℕ
-  pub block : Block W
+use Rattle.subset_blocks.specs.declared.Numbered.{Numbered}
 
 -- how many blocks a partition has room for
 abbrev pub most_blocks : ℕ
@@ -38,3 +34,8 @@ closed number blocks = filter (λ b. not (b.number == number)) blocks
 
 abbrev pub closed_of : {W : Type 0} → TxnName → List (Numbered W) → List (Numbered W)
 closed_of holder blocks = filter (λ b. not (same_txn b.block.holder holder)) blocks
+
+-- no two blocks have one number
+abbrev pub NumbersDiffer : {W : Type 0} → List (Numbered W) → Type 0
+NumbersDiffer [] = Unit {0}
+NumbersDiffer (b ∷ blocks) = (list_any (λ c. c.number == b.number) blocks ≡ false) × NumbersDiffer blocks

@@ -1,0 +1,104 @@
+//! Continue: the next quantum of a subset.
+ghost use Rattle.std.specs.Prelude.{◌≡◌, IfOk};
+ghost use Rattle.sql_base.specs.Keys.{key_eq};
+ghost use Rattle.subset_blocks.specs.Blocks.{find_block};
+ghost use Rattle.partition_core.specs.Contents.{state_of, parts_of, AreStill, AreReads};
+ghost use Rattle.partition_core.specs.Changes.{tells, IsFitting};
+ghost use Rattle.partition_core.specs.Step.{goes_on, kept_key};
+
+use crate::changes::{Change, Judgement, refusal};
+use crate::contents::Contents;
+use dp_messages::Reply;
+use quantum_core::{QuantumReply, read_quantum};
+use sql_base::{Key, NoMemory, Start, TxnName};
+use std::alloc::Global;
+use subset_blocks::find_block;
+
+impl Contents {
+    /// Goes on with a subset of the transaction just after its last key.
+    pub fn go_on(
+        &self,
+        alloc: Global,
+        t: TxnName,
+        subset: u32,
+        last: &Key,
+    ) -> Result<Judgement, NoMemory>
+        requires still { AreStill (parts_of self.now) }
+        requires reads { AreReads (parts_of self.now) }
+        ensures told { IfOk result (λ j. tells (state_of (parts_of self.now)) t j
+            ≡ goes_on (state_of (parts_of self.now)) last.now (find_block subset t self.now.blocks.items)) }
+        ensures fits { IfOk result (λ j. IsFitting (parts_of self.now) j.change) }
+    {
+        let Some(numbered) = find_block(&self.blocks, subset, t) else {
+            return Ok(refusal(Reply::NoSubset));
+        };
+        let block = &numbered.block;
+        let kept = kept_key(&block.start);
+        if !is_key(kept, last) {
+            return Ok(refusal(wrong_key(alloc, kept)?));
+        }
+        let reply = read_quantum(
+            alloc,
+            self.limits,
+            &self.table,
+            &self.cells,
+            &self.locks,
+            block,
+        )?;
+        match reply {
+            QuantumReply::Ended { rows, changed } => Ok(Judgement {
+                reply: Reply::Ended { rows, changed },
+                change: Change::Closes {
+                    subset: numbered.number,
+                },
+            }),
+            QuantumReply::Redrive {
+                last,
+                cause,
+                rows,
+                changed,
+            } => {
+                let change = Change::Advances {
+                    subset: numbered.number,
+                    last: last.copied(alloc)?,
+                };
+                Ok(Judgement {
+                    reply: Reply::Redrive {
+                        subset: numbered.number,
+                        last,
+                        cause,
+                        rows,
+                        changed,
+                    },
+                    change,
+                })
+            }
+            QuantumReply::Locked(lock) => Ok(refusal(Reply::Locked(lock))),
+            QuantumReply::Failed { key, fault } => Ok(refusal(Reply::Failed { key, fault })),
+        }
+    }
+}
+
+/// The key at which a subset under way stopped.
+fn kept_key(start: &Start) -> &Key
+    ensures { result.now ≡ kept_key start.now }
+{
+    match start {
+        Start::At(low) => low,
+        Start::After(last) => last,
+    }
+}
+
+fn wrong_key(alloc: Global, kept: &Key) -> Result<Reply, NoMemory>
+    ensures { IfOk result (λ reply. reply ≡ Reply.WrongKey kept.now) }
+{
+    Ok(Reply::WrongKey {
+        kept: kept.copied(alloc)?,
+    })
+}
+
+fn is_key(a: &Key, b: &Key) -> bool
+    ensures { result ≡ key_eq a.now b.now }
+{
+    a.bytes().cmp(b.bytes()).is_eq()
+}
