@@ -99,3 +99,42 @@ fn ask(
         Pick::Pending | Pick::Passed => Err(Stop::NoMemory),
     }
 }
+
+/// Whether the partition serves requests of this kind yet.
+fn is_served(ask: &Ask) -> bool {
+    match ask {
+        Ask::BeginRead { filter, .. } => filter.is_none(),
+        Ask::Continue { .. } | Ask::Prepare | Ask::EndCommit { .. } => true,
+        _ => false,
+    }
+}
+
+/// The partition of the script's table, with its LOAD rows.
+fn open(alloc: Global, script: &Script) -> Result<Partition, NoMemory>
+    requires { IsThin script.now }
+{
+    let table = &script.tables.items()[0];
+    match script.loads.items() {
+        [] => Partition::new(alloc, table, 0, script.limits, &[]),
+        [load, ..] => Partition::new(alloc, table, 0, script.limits, load.rows.items()),
+    }
+}
+
+/// What a run keeps of its session, its partition and its journal.
+fn record(
+    alloc: Global,
+    session: Session,
+    partition: Partition,
+    journal: List<Drawn>,
+) -> Result<RunRecord, NoMemory> {
+    let mut histories = List::new(alloc);
+    histories.push(partition.into_history())?;
+    let mut logs = List::new(alloc);
+    logs.push(session.into_log())?;
+    Ok(RunRecord {
+        histories,
+        journal,
+        logs,
+        acts: List::new(alloc),
+    })
+}

@@ -1,11 +1,77 @@
-//! Runs a script of SQL: reads it, and writes what came of it.
+//! The program `nsq`: reads a script of SQL, runs it, and writes what came of it.
 #![tactic(auto)]
 
+mod commands;
+mod driver;
 mod input;
+mod outcome;
 mod output;
+mod top;
 
+pub use commands::{Command, WordsFault, command_of};
 pub use input::{ReadError, SCRIPT_LIMIT, read_to_limit};
+pub use outcome::Outcome;
 pub use output::write_all;
+use outside::{Cycle, Passage, QuietGate, StdSink, StdSource, Wire};
+use sql_base::NoMemory;
+use std::process::ExitCode;
+use std::{env, io};
+pub use top::{WIRES, run, run_alone};
+
+/// The words of the command line, the program's name first.
+fn words_of(rt: &HostRuntime) -> io::Result<Vec<String>> {
+    let mut words = Vec::new(rt.alloc());
+    for word in env::args(rt)? {
+        words.push(word)?;
+    }
+    Ok(words)
+}
+
+/// Runs the words over standard input and output, a gate that holds nobody and wires that carry everything.
+fn outcome_of(rt: &HostRuntime, words: &[String]) -> Result<Outcome, NoMemory> {
+    let alloc = rt.alloc();
+    let mut wires: Vec<Box<dyn Wire + Send>> = Vec::new(alloc);
+    for _ in 0..WIRES {
+        let carry = vec![in alloc; Passage::Carry]?;
+        wires.push(Box::new(alloc, Cycle::new(carry))?)?;
+    }
+    let mut source = StdSource::new(rt.stdin());
+    let mut sink = StdSink::new(rt.stdout());
+    let mut collectors = Vec::new(alloc);
+    Ok(run(
+        alloc,
+        words,
+        &mut source,
+        &mut sink,
+        &QuietGate,
+        wires,
+        &mut collectors,
+    ))
+}
+
+/// One line on standard error that says how it ended.
+fn tell(rt: &HostRuntime, outcome: &Outcome) -> io::Result<()> {
+    match (outcome.status, outcome.fault) {
+        (0, _) => eprintln!(rt; "nsq: done"),
+        (1, Some(fault)) => eprintln!(rt;
+            "nsq: line {} column {}: {:?}",
+            fault.line, fault.column, fault.reason
+        ),
+        (2, _) => eprintln!(rt; "nsq: bad command line"),
+        (3, _) => eprintln!(rt; "nsq: read failed"),
+        (4, _) => eprintln!(rt; "nsq: write failed"),
+        _ => eprintln!(rt; "nsq: out of memory"),
+    }
+}
+
+fn main(rt: HostRuntime) -> ExitCode {
+    let outcome = match words_of(&rt) {
+        Ok(words) => outcome_of(&rt, words.as_slice()).unwrap_or(Outcome::bare(5)),
+        Err(_) => Outcome::bare(2),
+    };
+    let _told = tell(&rt, &outcome);
+    ExitCode::from(outcome.status)
+}
 
 #[cfg(test)]
 mod tests;

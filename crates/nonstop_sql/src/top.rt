@@ -1,3 +1,10 @@
+//! The top call: from the words, the source and the wires to the sink.
+ghost use Rattle.std.specs.Prelude.{◌≡◌, ◌≤◌, ◌<◌, ◌↔◌, ◌⊎◌, vec_len, IfOk};
+ghost use Rattle.std.specs.Io.KnownBytes.{Keeps};
+ghost use Rattle.statement_reader.specs.Thin.{IsThin};
+ghost use Rattle.nonstop_sql.specs.Commands.{IsSteps};
+ghost use Rattle.nonstop_sql.specs.Steps.{Runs, RunsBytes, StepsEnds, text_of};
+
 use crate::commands::{Command, command_of};
 use crate::driver::{Stop, drive};
 use crate::input::{ReadError, read_to_limit};
@@ -13,6 +20,8 @@ use std::alloc::Global;
 pub const WIRES: usize = 8;
 
 /// Runs the command that the words ask for, from the bytes of the source to those of the sink.
+///
+/// Status 2 comes before anything is read, and leaves everything as it was.
 pub fn run<S: Source, K: Sink, G: Gate>(
     alloc: Global,
     words: &[String],
@@ -21,7 +30,13 @@ pub fn run<S: Source, K: Sink, G: Gate>(
     _gate: &G,
     wires: Vec<Box<dyn Wire + Send>>,
     collectors: &mut Vec<Box<dyn Collector>>,
-) -> Outcome {
+) -> Outcome
+    ensures refused { (result.status ≡ 2) ↔ ((IsSteps words.now → ⊥) ⊎ (vec_len wires < WIRES)) }
+    ensures unread { result.status ≡ 2 → Keeps (S.left source.old) (S.left source.new) × Keeps (K.taken sink.old) (K.taken sink.new) }
+    ensures ran { IsSteps words.now → WIRES ≤ vec_len wires →
+        StepsEnds (S.left source.old) (S.left source.new) (S.faults source.old) (S.faults source.new)
+        (K.taken sink.old) (K.taken sink.new) (K.faults sink.old) (K.faults sink.new) result }
+{
     if wires.len() < WIRES {
         return Outcome::bare(2);
     }
@@ -31,28 +46,41 @@ pub fn run<S: Source, K: Sink, G: Gate>(
     }
 }
 
-/// Runs a command that waits for nobody.
+/// Runs a command that waits for nobody, over at least 8 wires.
 pub fn run_alone<S: Source, K: Sink>(
     alloc: Global,
     command: &Command,
     source: &mut S,
     sink: &mut K,
-    _wires: Vec<Box<dyn Wire + Send>>,
+    wires: Vec<Box<dyn Wire + Send>>,
     _collectors: &mut Vec<Box<dyn Collector>>,
-) -> Outcome {
+) -> Outcome
+    requires { WIRES ≤ vec_len wires }
+    ensures { StepsEnds (S.left source.old) (S.left source.new) (S.faults source.old) (S.faults source.new)
+        (K.taken sink.old) (K.taken sink.new) (K.faults sink.old) (K.faults sink.new) result }
+{
     match command {
         Command::Steps => steps(alloc, source, sink),
     }
 }
 
 /// Reads a script, runs it and writes its text.
-fn steps<S: Source, K: Sink>(alloc: Global, source: &mut S, sink: &mut K) -> Outcome {
-    let bytes = match read_to_limit(alloc, source) {
-        Ok(bytes) => bytes,
-        Err(ReadError::Failed) => return Outcome::bare(3),
-        Err(ReadError::NoMemory) => return Outcome::bare(5),
-    };
-    match read_script(alloc, bytes.as_slice()) {
+fn steps<S: Source, K: Sink>(alloc: Global, source: &mut S, sink: &mut K) -> Outcome
+    ensures { StepsEnds (S.left source.old) (S.left source.new) (S.faults source.old) (S.faults source.new)
+        (K.taken sink.old) (K.taken sink.new) (K.faults sink.old) (K.faults sink.new) result }
+{
+    match read_to_limit(alloc, source) {
+        Ok(bytes) => run_bytes(alloc, bytes.as_slice(), sink),
+        Err(ReadError::Failed) => Outcome::bare(3),
+        Err(ReadError::NoMemory) => Outcome::bare(5),
+    }
+}
+
+/// Runs the script that the bytes spell.
+fn run_bytes<K: Sink>(alloc: Global, bytes: &[u8], sink: &mut K) -> Outcome
+    ensures { RunsBytes bytes.now (K.taken sink.old) (K.taken sink.new) (K.faults sink.old) (K.faults sink.new) result }
+{
+    match read_script(alloc, bytes) {
         Ok(script) => run_script(alloc, &script, sink),
         Err(ReadFault::Script(fault)) => Outcome {
             status: 1,
@@ -63,21 +91,28 @@ fn steps<S: Source, K: Sink>(alloc: Global, source: &mut S, sink: &mut K) -> Out
     }
 }
 
-fn run_script<K: Sink>(alloc: Global, script: &Script, sink: &mut K) -> Outcome {
-    match kept_and_text(alloc, script) {
-        Ok((kept, output)) => match write_all(sink, output.as_slice()) {
-            Ok(()) => Outcome {
-                status: 0,
-                kept: Some(kept),
-                fault: None,
-            },
-            Err(_) => Outcome::bare(4),
+fn run_script<K: Sink>(alloc: Global, script: &Script, sink: &mut K) -> Outcome
+    requires { IsThin script.now }
+    ensures { Runs script.now (K.taken sink.old) (K.taken sink.new) (K.faults sink.old) (K.faults sink.new) result }
+{
+    let Ok((kept, output)) = kept_and_text(alloc, script) else {
+        return Outcome::bare(5);
+    };
+    match write_all(sink, output.as_slice()) {
+        Ok(()) => Outcome {
+            status: 0,
+            kept: Some(kept),
+            fault: None,
         },
-        Err(_) => Outcome::bare(5),
+        Err(_) => Outcome::bare(4),
     }
 }
 
-fn kept_and_text(alloc: Global, script: &Script) -> Result<(RunRecord, Vec<u8>), Stop> {
+/// What a run of the script kept, and its text.
+fn kept_and_text(alloc: Global, script: &Script) -> Result<(RunRecord, Vec<u8>), Stop>
+    requires { IsThin script.now }
+    ensures { IfOk result (λ r. r.1.items ≡ text_of script.now r.0) }
+{
     let kept = drive(alloc, script)?;
     let output = text(alloc, script, &kept)?;
     Ok((kept, output))

@@ -41,7 +41,10 @@ IsServing-new table place limits width cells rows visits at_0 firsts is_width ar
     record {
       replayed = record { legal = tt; replayed = refl };
       still = record {
-        visits = visits; place = at_0; firsts = firsts; width = is_width;
+        visits = visits;
+        place = at_0;
+        firsts = firsts;
+        width = is_width;
         rows = subst (λ cs. AllByRecursion (HasRow (length table.columns)) cs) (sym are) (new_rows table rows (recursion_from_All (IsRow table) rows is_rows));
         settled = subst (λ (cs : List Cell). AllByRecursion (λ cell. cell.writer ≡ None) cs) (sym are) (new_settled table rows);
       };

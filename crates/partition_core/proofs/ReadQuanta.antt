@@ -89,8 +89,9 @@ within n m (c ∷ columns) e h =
 -- columns of the table are in each of its rows
 pub columns_here : (count : ℕ) (columns : List ℕ) (cells : List Cell) → (nat_lt 0 (length columns) && list_all (λ c. nat_lt c count) columns) ≡ true → AllByRecursion (HasRow count) cells → AllByRecursion (HasColumns (reading columns)) cells
 columns_here count columns [] here rows = tt
-columns_here count columns (cell ∷ cells) here rows =
-    ((λ cs row is_read stands.
-       let same : columns ≡ cs = cc in
-       All-from_recursion (λ c. c < length row) cs (within count (length row) cs (rows.0 row stands) (ap (λ xs. list_all (λ c. nat_lt c count) xs) (sym same) ∙ and_right (nat_lt 0 (length columns)) _ here))),
-     columns_here count columns cells here rows.1)
+columns_here count columns (cell ∷ cells) here rows = (
+  (λ cs row is_read stands.
+      let same : columns ≡ cs = cc in
+      All-from_recursion (λ c. c < length row) cs (within count (length row) cs (rows.0 row stands) (ap (λ xs. list_all (λ c. nat_lt c count) xs) (sym same) ∙ and_right (nat_lt 0 (length columns)) _ here))),
+  columns_here count columns cells here rows.1,
+)

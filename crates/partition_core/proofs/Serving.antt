@@ -135,13 +135,13 @@ kept-after q opener sync request j serving lies fresh told =
     let seats = seats-changed q t j.change serving.seats in
     let eight = eight-changed q t j.change serving.eight in
     let now : state_of (noted_parts q1 e) ≡ (step p opener sync request).state =
-        state-noted q1 e seats eight lies
-        ∙ ap (λ (s : State). noted s opener sync j.reply) (state-changed q t j.change serving.still serving.eight lies)
-        ∙ ap (λ (a : Answered). noted a.state opener sync a.reply) told
-        ∙ sym (ap (λ (s : Stepped). s.state) (step-new p opener sync request fresh)) in
+    state-noted q1 e seats eight lies
+    ∙ ap (λ (s : State). noted s opener sync j.reply) (state-changed q t j.change serving.still serving.eight lies)
+    ∙ ap (λ (a : Answered). noted a.state opener sync a.reply) told
+    ∙ sym (ap (λ (s : Stepped). s.state) (step-new p opener sync request fresh)) in
     let history : (noted_parts q1 e).history ≡ q.history ++ entry_of p opener sync request ∷ [] =
-        ap (λ h. h ++ e ∷ []) (history-changed q t j.change)
-        ∙ ap (λ (a : Answered). q.history ++ record { opener = opener; sync = sync; request = request; reply = a.reply } ∷ []) told in
+    ap (λ h. h ++ e ∷ []) (history-changed q t j.change)
+    ∙ ap (λ (a : Answered). q.history ++ record { opener = opener; sync = sync; request = request; reply = a.reply } ∷ []) told in
     ap (λ o. kept_by o (state_of (noted_parts q1 e)) (noted_parts q1 e).history) (opening-changed q t j.change)
     ∙ ap (λ n. kept_by (kept_of q).opening n (noted_parts q1 e).history) now
     ∙ ap (λ h. kept_by (kept_of q).opening (step p opener sync request).state h) history

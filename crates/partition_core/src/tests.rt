@@ -4,8 +4,8 @@ ghost use Rattle.partition_core.specs.Kept.{IsServed};
 use crate::{Partition, Pick, Served};
 use dp_messages::{Ask, Reply, Request};
 use sql_base::{
-    Access, Cause, Column, ColumnKind, Key, KeyRange, Limits, List, Name, NoMemory, Packed, Prefix, Row,
-    TableDef, Value,
+    Access, Cause, Column, ColumnKind, Key, KeyRange, Limits, List, Name, NoMemory, Packed, Prefix,
+    Row, TableDef, Value,
 };
 use std::alloc::Global;
 use std::test::Fail;
@@ -109,13 +109,15 @@ fn is_redrive(partition: &Partition, sync: u64, first: u8, second: u8) -> bool
     requires { 0 < sync }
 {
     match partition.pickup(1, sync) {
-        Pick::Reply(Reply::Redrive {
-            subset,
-            last,
-            cause,
-            rows,
-            changed,
-        }) => {
+        Pick::Reply(
+            Reply::Redrive {
+                subset,
+                last,
+                cause,
+                rows,
+                changed,
+            },
+        ) => {
             *subset == 1
                 && *cause == Cause::Visits
                 && *changed == 0
@@ -147,7 +149,26 @@ fn are_packed(rows: &List<Packed>, numbers: &[u8]) -> bool {
 
 fn is_packed(row: &[u8], number: u8) -> bool {
     number <= 25
-        && row == [0, 0, 0, 0, 0, 0, 0, number, 0, 0, 0, 0, 0, 0, 0, number * 10].as_slice()
+        && row
+            == [
+                0,
+                0,
+                0,
+                0,
+                0,
+                0,
+                0,
+                number,
+                0,
+                0,
+                0,
+                0,
+                0,
+                0,
+                0,
+                number * 10,
+            ]
+            .as_slice()
 }
 
 #[test]
@@ -158,9 +179,15 @@ fn a_scan_goes_on_by_quanta_to_its_end(rt: HostRuntime) -> Result<(), Fail> {
     let mut partition = Partition::new(alloc, &table, 0, LIMITS, rows.items())?;
     assert_eq!(rt; partition.serve(alloc, 1, 1, &begin(alloc)?), Served::New);
     assert!(rt; is_redrive(&partition, 1, 1, 2));
-    assert_eq!(rt; partition.serve(alloc, 1, 2, &go_on(alloc, 2)?), Served::New);
+    assert_eq!(rt;
+        partition.serve(alloc, 1, 2, &go_on(alloc, 2)?),
+        Served::New
+    );
     assert!(rt; is_redrive(&partition, 2, 3, 4));
-    assert_eq!(rt; partition.serve(alloc, 1, 3, &go_on(alloc, 4)?), Served::New);
+    assert_eq!(rt;
+        partition.serve(alloc, 1, 3, &go_on(alloc, 4)?),
+        Served::New
+    );
     assert!(rt; is_ended(&partition, 3, &[5]));
     assert_eq!(rt; partition.history().len(), 3);
     assert_eq!(rt; partition.rows(alloc)?.items().len(), 5);

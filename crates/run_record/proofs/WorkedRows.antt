@@ -85,7 +85,8 @@ second_draw = record { name = name 1; floor = 1; stamp = 2 }
 
 abbrev reader : Attempt
 reader = record {
-  work = reading; ordinal = 1;
+  work = reading;
+  ordinal = 1;
   parts = (asked 1 scan all_four ∷ []) ∷ [];
   ending = asked 2 ask.Prepare (reply.Floor 1) ∷ Drew (name 1) 1 (Stamp 2) ∷ asked 3 (ask.EndCommit 2) reply.Done ∷ [];
   outcome = Committed 2;
@@ -93,7 +94,8 @@ reader = record {
 
 abbrev writer : Attempt
 writer = record {
-  work = inserting; ordinal = 1;
+  work = inserting;
+  ordinal = 1;
   parts = (asked 1 (ask.Insert (both 9)) reply.Done ∷ []) ∷ [];
   ending = asked 2 ask.Prepare (reply.Floor 0) ∷ Drew (name 2) 0 (Stamp 1) ∷ asked 3 (ask.EndCommit 1) reply.Done ∷ [];
   outcome = Committed 1;
