@@ -1,6 +1,6 @@
 -- A quantum that reads changes nothing.
-use Rattle.std.proofs.Common.{◌≡◌, ◌<◌, ℕ, zero, suc, List, [], ◌∷◌, length, take, map, filter, Option, Some, None, Bool, true, false, ◌&&◌, cond, refl, ap, sym, ◌∙◌, arith}
-use Rattle.std.specs.Prelude.{All, nat_lt}
+use Rattle.std.proofs.Common.{◌≡◌, ◌<◌, ℕ, zero, suc, List, [], ◌∷◌, length, take, map, Option, None, Bool, true, false, ◌&&◌, cond, refl, ap, sym, ◌∙◌, arith}
+use Rattle.std.specs.Prelude.{nat_lt}
 use Rattle.std.specs.List.{AllByRecursion, list_all}
 use Rattle.std.proofs.lemmas.Bool.{false≢true}
 use Rattle.std.proofs.lemmas.Bool.Decides.{nat_tests}
@@ -17,8 +17,6 @@ use Rattle.quantum_core.specs.Quantum.{Handled, quantum, changes, change_of, cha
 use Rattle.quantum_core.specs.Verdicts.{Judged, judged, verdict, candidates}
 use Rattle.quantum_core.specs.Walk.{IsRead, HasColumns}
 use Rattle.quantum_core.specs.declared.works.SetWork.{SetWork}
-use Rattle.quantum_core.specs.declared.works.Doing.{Doing}
-use Rattle.quantum_core.specs.declared.works.Doing.TheVariants.{Read}
 use Rattle.quantum_core.specs.declared.verdicts.Effect.TheVariants.{Gives, Becomes, Goes}
 use Rattle.quantum_core.specs.declared.verdicts.Verdict.{Verdict}
 use Rattle.quantum_core.specs.declared.verdicts.Verdict.TheVariants.{Blocked, Faulty, PassedOver, Selected}
@@ -89,8 +87,9 @@ within n m (c ∷ columns) e h =
 -- columns of the table are in each of its rows
 pub columns_here : (count : ℕ) (columns : List ℕ) (cells : List Cell) → (nat_lt 0 (length columns) && list_all (λ c. nat_lt c count) columns) ≡ true → AllByRecursion (HasRow count) cells → AllByRecursion (HasColumns (reading columns)) cells
 columns_here count columns [] here rows = tt
-columns_here count columns (cell ∷ cells) here rows =
-    ((λ cs row is_read stands.
-       let same : columns ≡ cs = cc in
-       All-from_recursion (λ c. c < length row) cs (within count (length row) cs (rows.0 row stands) (ap (λ xs. list_all (λ c. nat_lt c count) xs) (sym same) ∙ and_right (nat_lt 0 (length columns)) _ here))),
-     columns_here count columns cells here rows.1)
+columns_here count columns (cell ∷ cells) here rows = (
+  (λ cs row is_read stands.
+      let same : columns ≡ cs = cc in
+      All-from_recursion (λ c. c < length row) cs (within count (length row) cs (rows.0 row stands) (ap (λ xs. list_all (λ c. nat_lt c count) xs) (sym same) ∙ and_right (nat_lt 0 (length columns)) _ here))),
+  columns_here count columns cells here rows.1,
+)

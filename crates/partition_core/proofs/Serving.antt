@@ -1,19 +1,19 @@
 -- What a partition keeps between two requests, through one new request.
-use Rattle.std.proofs.Common.{◌≡◌, ◌<◌, ℕ, zero, suc, get_or, ◌+◌, ◌-◌, List, [], ◌∷◌, ◌++◌, length, map, Option, Some, None, Bool, true, false, refl, ap, sym, ◌∙◌, subst, arith}
-use Rattle.std.specs.Prelude.{slice_get, slice_set, unwrap_or, max, filter, filter_map, not, All}
-use Rattle.std.specs.List.{AllByRecursion, cons_option, list_any}
+use Rattle.std.proofs.Common.{◌≡◌, ◌<◌, ℕ, zero, suc, get_or, ◌-◌, List, [], ◌∷◌, ◌++◌, length, map, Some, None, refl, ap, sym, ◌∙◌, subst, arith}
+use Rattle.std.specs.Prelude.{slice_get, slice_set, unwrap_or, max, filter, not}
+use Rattle.std.specs.List.{AllByRecursion, cons_option}
 use Rattle.sql_base.specs.Locks.{released, same_txn}
 use Rattle.sql_base.specs.Scripts.{Lies}
 use Rattle.sql_base.specs.declared.lock_names.TxnName.{TxnName}
 use Rattle.key_sequenced.specs.Cells.{settled, ending}
 use Rattle.key_sequenced.specs.declared.Cell.{Cell}
-use Rattle.subset_blocks.specs.Blocks.{closed_of, NumbersDiffer}
+use Rattle.subset_blocks.specs.Blocks.{closed_of}
 use Rattle.dp_messages.specs.declared.requests.Request.{Request}
 use Rattle.partition_core.specs.State.{State, Opener, new_opener, opener_of}
 use Rattle.partition_core.specs.Step.{Answered, Stepped, step, answered, noted}
 use Rattle.partition_core.specs.Kept.{Kept, IsReplayed, served, entry_of}
 use Rattle.partition_core.specs.Contents.{Parts, state_of, kept_of, seated, AreStill, AreReads, IsServing, IsSeat, ReadsColumns}
-use Rattle.partition_core.specs.Changes.{after, tells, changed, noted_parts, at_seat, IsFitting}
+use Rattle.partition_core.specs.Changes.{after, tells, changed, noted_parts, IsFitting}
 use Rattle.partition_core.specs.declared.changes.Change.{Change}
 use Rattle.partition_core.specs.declared.changes.Change.TheVariants.{Stays, Begins, Advances, Closes, Prepares, Commits}
 use Rattle.partition_core.specs.declared.changes.Judgement.{Judgement}
@@ -135,13 +135,13 @@ kept-after q opener sync request j serving lies fresh told =
     let seats = seats-changed q t j.change serving.seats in
     let eight = eight-changed q t j.change serving.eight in
     let now : state_of (noted_parts q1 e) ≡ (step p opener sync request).state =
-        state-noted q1 e seats eight lies
-        ∙ ap (λ (s : State). noted s opener sync j.reply) (state-changed q t j.change serving.still serving.eight lies)
-        ∙ ap (λ (a : Answered). noted a.state opener sync a.reply) told
-        ∙ sym (ap (λ (s : Stepped). s.state) (step-new p opener sync request fresh)) in
+    state-noted q1 e seats eight lies
+    ∙ ap (λ (s : State). noted s opener sync j.reply) (state-changed q t j.change serving.still serving.eight lies)
+    ∙ ap (λ (a : Answered). noted a.state opener sync a.reply) told
+    ∙ sym (ap (λ (s : Stepped). s.state) (step-new p opener sync request fresh)) in
     let history : (noted_parts q1 e).history ≡ q.history ++ entry_of p opener sync request ∷ [] =
-        ap (λ h. h ++ e ∷ []) (history-changed q t j.change)
-        ∙ ap (λ (a : Answered). q.history ++ record { opener = opener; sync = sync; request = request; reply = a.reply } ∷ []) told in
+    ap (λ h. h ++ e ∷ []) (history-changed q t j.change)
+    ∙ ap (λ (a : Answered). q.history ++ record { opener = opener; sync = sync; request = request; reply = a.reply } ∷ []) told in
     ap (λ o. kept_by o (state_of (noted_parts q1 e)) (noted_parts q1 e).history) (opening-changed q t j.change)
     ∙ ap (λ n. kept_by (kept_of q).opening n (noted_parts q1 e).history) now
     ∙ ap (λ h. kept_by (kept_of q).opening (step p opener sync request).state h) history

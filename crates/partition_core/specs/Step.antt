@@ -1,6 +1,6 @@
 -- What one request does to a partition.
 -- Of the requests that carry code, those without a filter are covered: no code stands for an expression yet.
-use Rattle.std.specs.Prelude.{ℕ, ◌+◌, List, [], ◌∷◌, ◌++◌, length, map, filter, find, max, nat_eq, nat_le, nat_lt, ◌==◌, Option, Some, None, option_map, option_and_then, Bool, true, false, not, ◌&&◌, if◌then◌else◌}
+use Rattle.std.specs.Prelude.{ℕ, List, [], ◌∷◌, length, map, filter, find, max, nat_eq, nat_le, nat_lt, ◌==◌, Option, Some, None, option_map, option_and_then, Bool, true, false, not, ◌&&◌, if◌then◌else◌}
 use Rattle.std.specs.List.{list_all, starts_with}
 use Rattle.sql_base.specs.Keys.{key_eq, key_le}
 use Rattle.sql_base.specs.Rows.{key_of, key_width, kinds, unpacked}
@@ -37,7 +37,7 @@ use Rattle.dp_messages.specs.declared.replies.Reply.TheVariants.{Ended, Redrive,
 use Rattle.dp_messages.specs.declared.requests.Ask.{Ask}
 use Rattle.dp_messages.specs.declared.requests.Ask.TheVariants.{BeginRead, BeginUpdate, BeginDelete, Continue, ReadKey, Insert, LockGranule, Prepare, EndCommit, EndUndo}
 use Rattle.dp_messages.specs.declared.requests.Request.{Request}
-use Rattle.partition_core.specs.State.{State, Opener, opener_of, with_opener, is_live, floor_of, with_live}
+use Rattle.partition_core.specs.State.{State, opener_of, with_opener, is_live, floor_of, with_live}
 use Rattle.partition_core.specs.declared.lives.Live.{Live}
 
 -- a reply, and the partition after it
@@ -68,7 +68,7 @@ is_key_here p key = (length key == key_width p.table) && (part_of p.table key ==
 abbrev pub is_shaped : State → KeyRange → List ℕ → Bool
 is_shaped p range granule =
     is_key_here p range.low && is_key_here p range.high && key_le range.low range.high
-        && (starts_with nat_eq range.low granule && starts_with nat_eq range.high granule)
+    && (starts_with nat_eq range.low granule && starts_with nat_eq range.high granule)
 
 abbrev pub are_columns_here : State → List ℕ → Bool
 are_columns_here p columns = nat_lt 0 (length columns) && list_all (λ c. nat_lt c (length p.table.columns)) columns

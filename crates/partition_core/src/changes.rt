@@ -23,10 +23,17 @@ pub enum Change {
         opened: Option<Numbered<SetWork>>,
     },
     /// The subset goes on after the key.
-    Advances { subset: u32, last: Key },
-    Closes { subset: u32 },
+    Advances {
+        subset: u32,
+        last: Key,
+    },
+    Closes {
+        subset: u32,
+    },
     Prepares,
-    Commits { stamp: u64 },
+    Commits {
+        stamp: u64,
+    },
 }
 
 /// The reply to a request, and what changes with it.

@@ -39,8 +39,8 @@ mode_cmp a b = nat_cmp (place a) (place b)
 abbrev pub lock_cmp : Lock → Lock → Ordering
 lock_cmp a b =
     ordering_then (slice_cmp nat_cmp a.prefix b.prefix)
-        (ordering_then (nat_cmp a.holder.session b.holder.session)
-            (ordering_then (nat_cmp a.holder.ordinal b.holder.ordinal) (mode_cmp a.mode b.mode)))
+    (ordering_then (nat_cmp a.holder.session b.holder.session)
+    (ordering_then (nat_cmp a.holder.ordinal b.holder.ordinal) (mode_cmp a.mode b.mode)))
 
 -- the locks stand in table order, each once
 abbrev pub InTableOrder : List Lock → Type 0

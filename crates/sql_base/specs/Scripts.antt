@@ -30,7 +30,7 @@ parts_of tables = sum_by (λ table. length table.firsts + 1) tables
 abbrev pub IsLoad : List TableDef → Load → Type 0
 IsLoad tables load =
     (table : TableDef) × (slice_get tables load.table ≡ Some table) × (0 < length load.rows)
-        × AreRecords table load.rows × AllByRecursion (λ row. first_failing table.checks row ≡ None) load.rows
+    × AreRecords table load.rows × AllByRecursion (λ row. first_failing table.checks row ≡ None) load.rows
 
 -- a script that may run, whatever the number of its bytes, records and statements
 pub record IsScript (script : Script) : Type 0 where

@@ -97,7 +97,7 @@ Stores kind other = ⊥
 abbrev pub IsAssign : TableDef → Assign → Type 0
 IsAssign table set =
     (column : ColumnKind) × (kind : Kind) × (slice_get (kinds table) set.column ≡ Some column)
-        × (list_any (nat_eq set.column) table.key ≡ false) × Stores column kind × IsExpr table kind set.value
+    × (list_any (nat_eq set.column) table.key ≡ false) × Stores column kind × IsExpr table kind set.value
 
 pub record AreSets (table : TableDef) (sets : List Assign) : Type 0 where
   pub some : 0 < length sets

@@ -50,11 +50,7 @@ fn has_number<W>(blocks: &[Numbered<W>], number: u32) -> bool
 }
 
 /// The transaction's block of that number.
-pub fn find_block<W>(
-    blocks: &[Numbered<W>],
-    number: u32,
-    holder: TxnName,
-) -> Option<&Numbered<W>>
+pub fn find_block<W>(blocks: &[Numbered<W>], number: u32, holder: TxnName) -> Option<&Numbered<W>>
     ensures { option_copied result ≡ find_block number holder blocks.now }
 {
     for numbered in blocks {

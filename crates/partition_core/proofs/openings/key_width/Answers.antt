@@ -1,4 +1,4 @@
-use Rattle.std.proofs.Common.{◌≡◌, ℕ, ◌<◌, length, get_or, map, All, refl, ap, sym, ◌∙◌, arith, Some}
+use Rattle.std.proofs.Common.{◌≡◌, ◌<◌, length, get_or, All, refl, ap, ◌∙◌, arith, Some}
 use Rattle.std.specs.Prelude.{slice_get, option_map}
 use Rattle.std.proofs.lemmas.Option.{slice_get_read, slice_get-map}
 use Rattle.sql_base.specs.Rows.{kinds}
@@ -14,9 +14,9 @@ overflow_add-sum c =
     let all : All (λ p. p < length table.columns) places = rw c.items-column-items.ensures c.requires.key in
     let within : place < length table.columns = all c.loop-column.column-index 0 c.loop-column-test.true in
     let column : slice_get table.columns place ≡ Some c.index-columns-at.result =
-        rw (← c.items-columns.ensures) (slice_get_read c.items-columns.result.now _ _ _ refl (rw c.items-columns.ensures within) c.index-columns-at.is) in
+    rw (← c.items-columns.ensures) (slice_get_read c.items-columns.result.now _ _ _ refl (rw c.items-columns.ensures within) c.index-columns-at.is) in
     let kind : slice_get (kinds table) place ≡ Some c.index-columns-at.result.kind =
-        slice_get-map (λ (k : Column). k.kind) table.columns place ∙ ap (option_map (λ (k : Column). k.kind)) column in
+    slice_get-map (λ (k : Column). k.kind) table.columns place ∙ ap (option_map (λ (k : Column). k.kind)) column in
     let there : Column = get_or c.items-columns.result.now place c.index-columns-at.result in
     let left = widths_left (kinds table) places c.loop-column.column-index place there.kind c.loop-column-test.true refl (kind ∙ ap (λ (k : Column). Some k.kind) c.index-columns-at.is) in
     omega (arith, left, c.loop-column.invariant, c.width_of-sum.ensures, c.requires.key_bytes)
@@ -29,9 +29,9 @@ loop-column-preserved c =
     let all : All (λ p. p < length table.columns) places = rw c.items-column-items.ensures c.requires.key in
     let within : place < length table.columns = all c.loop-column.column-index 0 c.loop-column-test.true in
     let column : slice_get table.columns place ≡ Some c.index-columns-at.result =
-        rw (← c.items-columns.ensures) (slice_get_read c.items-columns.result.now _ _ _ refl (rw c.items-columns.ensures within) c.index-columns-at.is) in
+    rw (← c.items-columns.ensures) (slice_get_read c.items-columns.result.now _ _ _ refl (rw c.items-columns.ensures within) c.index-columns-at.is) in
     let kind : slice_get (kinds table) place ≡ Some c.index-columns-at.result.kind =
-        slice_get-map (λ (k : Column). k.kind) table.columns place ∙ ap (option_map (λ (k : Column). k.kind)) column in
+    slice_get-map (λ (k : Column). k.kind) table.columns place ∙ ap (option_map (λ (k : Column). k.kind)) column in
     let there : Column = get_or c.items-columns.result.now place c.index-columns-at.result in
     let left = widths_left (kinds table) places c.loop-column.column-index place there.kind c.loop-column-test.true refl (kind ∙ ap (λ (k : Column). Some k.kind) c.index-columns-at.is) in
     omega (arith, left, c.loop-column.invariant, c.width_of-sum.ensures)

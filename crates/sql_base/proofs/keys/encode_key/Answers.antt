@@ -12,7 +12,7 @@ bounds-values-at c =
     let places : All (λ p. p < length c.args.table.now.columns) c.items-column-items.result.now = rw c.items-column-items.ensures c.requires.key in
     let within = places c.loop-column.column-index 0 c.loop-column-test.true in
     let same : length c.args.table.now.columns ≡ length c.args.row.now =
-        sym (length-map c.args.table.now.columns (λ (k : Column). k.kind)) ∙ are_of_kinds-length (kinds c.args.table.now) c.args.row.now c.requires.row in
+    sym (length-map c.args.table.now.columns (λ (k : Column). k.kind)) ∙ are_of_kinds-length (kinds c.args.table.now) c.args.row.now c.requires.row in
     rw c.values-values.ensures (subst (λ n. get_or c.items-column-items.result.now c.loop-column.column-index 0 < n) same within)
 
 pub loop-column-preserved : goal.loop-column-preserved
@@ -27,9 +27,9 @@ loop-column-preserved c =
     let same : length (kinds table) ≡ length row = rw c.values-values.ensures (are_of_kinds-length (kinds table) c.args.row.now c.requires.row) in
     let in_row : place < length row = subst (λ n. place < n) (sym (length-map table.columns (λ (k : Column). k.kind)) ∙ same) within in
     let column : slice_get table.columns place ≡ Some c.index-columns-at.result =
-        rw (← c.items-columns.ensures) (slice_get_read c.items-columns.result.now _ _ _ refl (rw c.items-columns.ensures within) c.index-columns-at.is) in
+    rw (← c.items-columns.ensures) (slice_get_read c.items-columns.result.now _ _ _ refl (rw c.items-columns.ensures within) c.index-columns-at.is) in
     let kind : slice_get (kinds table) place ≡ Some c.index-columns-at.result.kind =
-        slice_get-map (λ (k : Column). k.kind) table.columns place ∙ ap (option_map (λ (k : Column). k.kind)) column in
+    slice_get-map (λ (k : Column). k.kind) table.columns place ∙ ap (option_map (λ (k : Column). k.kind)) column in
     let there : Column = get_or c.items-columns.result.now place c.index-columns-at.result in
     let kind_there : slice_get (kinds table) place ≡ Some there.kind = kind ∙ ap (λ (k : Column). Some k.kind) c.index-columns-at.is in
     let value : slice_get row place ≡ Some c.index-values-at.result = slice_get_read row _ _ _ refl in_row c.index-values-at.is in

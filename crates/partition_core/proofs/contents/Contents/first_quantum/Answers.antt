@@ -18,6 +18,6 @@ returns-clause-told c =
     let none : option_copied c.against_granule.result ≡ None = grind (arith, common_steps) in
     let free = against-live p block.holder block granule block.access ∙ sym c.against_granule.ensures ∙ none in
     let replied = c.in_ok-reply.ensures
-        ∙ ap (λ (cells : List Cell). (quantum self.limits self.table cells c.deref-2.result.now block).reply) c.deref.ensures.value
-        ∙ ap (λ (locks : List Lock). (quantum self.limits self.table self.cells.items locks block).reply) c.deref-2.ensures.value in
+    ∙ ap (λ (cells : List Cell). (quantum self.limits self.table cells c.deref-2.result.now block).reply) c.deref.ensures.value
+    ∙ ap (λ (locks : List Lock). (quantum self.limits self.table self.cells.items locks block).reply) c.deref-2.ensures.value in
     IfOk-weaker c.after_first.result _ _ (λ j told. first-told p block granule _ c.in_ok-reply.reply _ free c.requires.reads replied told) c.after_first.ensures.told

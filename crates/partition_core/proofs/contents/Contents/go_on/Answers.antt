@@ -1,12 +1,10 @@
-use Rattle.std.proofs.Common.{◌≡◌, ℕ, List, Some, Bool, true, ap, sym, ◌∙◌, subst, refl, All}
+use Rattle.std.proofs.Common.{ℕ, List, ap, sym, ◌∙◌, subst, refl, All}
 use Rattle.sql_base.specs.Keys.{key_eq}
 use Rattle.sql_base.specs.declared.lock_names.Lock.{Lock}
 use Rattle.key_sequenced.specs.declared.Cell.{Cell}
 use Rattle.subset_blocks.specs.Blocks.{find_block, advanced}
-use Rattle.subset_blocks.specs.declared.Numbered.{Numbered}
 use Rattle.quantum_core.specs.Quantum.{quantum}
 use Rattle.quantum_core.specs.Walk.{HasColumns}
-use Rattle.quantum_core.specs.declared.works.SetWork.{SetWork}
 use Rattle.dp_messages.specs.declared.replies.Reply.TheVariants.{Redrive}
 use Rattle.partition_core.specs.Contents.{state_of, parts_of, ReadsColumns}
 use Rattle.partition_core.specs.Step.{Answered}
@@ -33,8 +31,8 @@ returns-in-Ended-clause-told c =
     let has = found_has (ReadsColumns self.cells.items) _ self.blocks.items b c.requires.reads.reads (sym found) in
     let right = ap (λ k. key_eq k c.args.last.now) (sym c.kept_key-kept.ensures) ∙ sym c.is_key.ensures ∙ c.if-not-is_key.false in
     let told = sym c.in-Ended.is ∙ c.in_ok-reply.ensures
-        ∙ ap (λ (cells : List Cell). (quantum self.limits self.table cells c.deref-3.result.now b.block).reply) c.deref-2.ensures.value
-        ∙ ap (λ (locks : List Lock). (quantum self.limits self.table self.cells.items locks b.block).reply) c.deref-3.ensures.value in
+    ∙ ap (λ (cells : List Cell). (quantum self.limits self.table cells c.deref-3.result.now b.block).reply) c.deref-2.ensures.value
+    ∙ ap (λ (locks : List Lock). (quantum self.limits self.table self.cells.items locks b.block).reply) c.deref-3.ensures.value in
     next-told (state_of (parts_of self)) c.args.last.now _ b _ _ found right has.0 told refl
 
 pub returns-in_ok-copied-in-Redrive-clause-told : goal.returns-in_ok-copied-in-Redrive-clause-told
@@ -46,7 +44,7 @@ returns-in_ok-copied-in-Redrive-clause-told c =
     let has = found_has (ReadsColumns self.cells.items) _ self.blocks.items b c.requires.reads.reads (sym found) in
     let right = ap (λ k. key_eq k c.args.last.now) (sym c.kept_key-kept.ensures) ∙ sym c.is_key.ensures ∙ c.if-not-is_key.false in
     let told = sym c.in-Redrive.is ∙ c.in_ok-reply.ensures
-        ∙ ap (λ (cells : List Cell). (quantum self.limits self.table cells c.deref-3.result.now b.block).reply) c.deref-2.ensures.value
-        ∙ ap (λ (locks : List Lock). (quantum self.limits self.table self.cells.items locks b.block).reply) c.deref-3.ensures.value in
+    ∙ ap (λ (cells : List Cell). (quantum self.limits self.table cells c.deref-3.result.now b.block).reply) c.deref-2.ensures.value
+    ∙ ap (λ (locks : List Lock). (quantum self.limits self.table self.cells.items locks b.block).reply) c.deref-3.ensures.value in
     let goes_on_after : List ℕ → Answered = λ last. record { reply = Redrive b.number c.in-Redrive.last c.in-Redrive.cause c.in-Redrive.rows c.in-Redrive.changed; state = record p { blocks = advanced b.number last p.blocks } } in
     next-told p c.args.last.now _ b _ _ found right has.0 told (ap goes_on_after c.in_ok-copied-in-Redrive.ensures)
