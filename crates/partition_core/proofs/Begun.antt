@@ -1,5 +1,5 @@
 -- What a judgement says where a subset begins.
-use Rattle.std.proofs.Common.{◌≡◌, ℕ, List, [], ◌∷◌, ◌++◌, Option, Some, None, Bool, true, false, ◌&&◌, eqb, cond, length, map, refl, ap, sym, ◌∙◌, subst}
+use Rattle.std.proofs.Common.{◌≡◌, ℕ, List, [], ◌∷◌, ◌++◌, Option, Some, None, Bool, true, false, ◌&&◌, eqb, length, map, refl, ap, sym, ◌∙◌, subst}
 use Rattle.std.specs.Prelude.{count_by, nat_le, All}
 use Rattle.std.specs.List.{list_any}
 use Rattle.std.proofs.lemmas.Bool.{eq-eqb}
@@ -25,7 +25,7 @@ use Rattle.quantum_core.specs.declared.replies.QuantumReply.{QuantumReply}
 use Rattle.quantum_core.specs.declared.replies.QuantumReply.TheVariants as answers
 use Rattle.quantum_core.specs.declared.works.SetWork.{SetWork}
 use Rattle.dp_messages.specs.declared.replies.Reply.TheVariants.{Ended, Redrive, BadShape, TooManySubsets}
-use Rattle.partition_core.specs.State.{State, with_live, enlisted}
+use Rattle.partition_core.specs.State.{State, with_live}
 use Rattle.partition_core.specs.Step.{Answered, refused, is_shaped, begin, begins, first_quantum, against_granule, after_first, with_granule, after_next, goes_on, kept_key}
 use Rattle.partition_core.specs.Changes.{tells, locks_with, granule_wanted, still_handled, FitsOpened}
 use Rattle.partition_core.specs.Contents.{Parts}

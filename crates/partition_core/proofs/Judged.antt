@@ -1,12 +1,12 @@
 -- The checks before the kinds.
-use Rattle.std.proofs.Common.{◌≡◌, ◌<◌, ◌-◌, ℕ, length, get_or, Option, Some, None, Result, Ok, Err, Bool, true, false, refl, ap, sym, ◌∙◌, arith}
+use Rattle.std.proofs.Common.{◌≡◌, ◌<◌, ◌-◌, ℕ, length, get_or, Option, None, Result, Ok, Err, false, refl, ap, ◌∙◌, arith}
 use Rattle.std.specs.Prelude.{nat_le, IfOk}
 use Rattle.std.proofs.lemmas.Bool.Decides.{nat_tests}
 use Rattle.sql_base.specs.declared.lock_names.TxnName.{TxnName}
 use Rattle.sql_base.specs.declared.faults.NoMemory.{NoMemory}
 use Rattle.dp_messages.specs.declared.requests.Ask.{Ask}
 use Rattle.partition_core.specs.State.{State, Opener, opener_of, floor_of}
-use Rattle.partition_core.specs.Step.{Answered, answered, unless_other, unless_prepared, other_live}
+use Rattle.partition_core.specs.Step.{answered, unless_other, unless_prepared, other_live}
 use Rattle.partition_core.specs.Contents.{Parts, state_of}
 use Rattle.partition_core.specs.Changes.{tells}
 use Rattle.partition_core.specs.declared.changes.Judgement.{Judgement}

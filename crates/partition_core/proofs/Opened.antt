@@ -1,5 +1,5 @@
 -- A partition as it begins.
-use Rattle.std.proofs.Common.{◌≡◌, ◌<◌, ℕ, List, [], ◌∷◌, length, map, replicate, Some, None, refl, ap, sym, ◌∙◌, subst}
+use Rattle.std.proofs.Common.{◌≡◌, ◌<◌, ℕ, List, [], ◌∷◌, length, map, replicate, None, refl, ap, sym, ◌∙◌, subst}
 use Rattle.std.specs.Prelude.{All}
 use Rattle.std.specs.List.{AllByRecursion}
 use Rattle.std.proofs.lemmas.List.{length-map}
@@ -12,7 +12,7 @@ use Rattle.sql_base.specs.declared.values.Value.{Value}
 use Rattle.sql_base.proofs.KeyColumns.{are_of_kinds-length}
 use Rattle.key_sequenced.specs.declared.Cell.{Cell}
 use Rattle.partition_core.specs.State.{new_cell}
-use Rattle.partition_core.specs.Contents.{Parts, AreStill, IsServing, HasRow}
+use Rattle.partition_core.specs.Contents.{Parts, IsServing, HasRow}
 use Rattle.partition_core.specs.declared.contents.Seat.{Seat}
 
 abbrev new_seat : Seat

@@ -1,6 +1,6 @@
 -- A quantum that reads changes nothing.
-use Rattle.std.proofs.Common.{◌≡◌, ◌<◌, ℕ, zero, suc, List, [], ◌∷◌, length, take, map, filter, Option, Some, None, Bool, true, false, ◌&&◌, cond, refl, ap, sym, ◌∙◌, arith}
-use Rattle.std.specs.Prelude.{All, nat_lt}
+use Rattle.std.proofs.Common.{◌≡◌, ◌<◌, ℕ, zero, suc, List, [], ◌∷◌, length, take, map, Option, None, Bool, true, false, ◌&&◌, cond, refl, ap, sym, ◌∙◌, arith}
+use Rattle.std.specs.Prelude.{nat_lt}
 use Rattle.std.specs.List.{AllByRecursion, list_all}
 use Rattle.std.proofs.lemmas.Bool.{false≢true}
 use Rattle.std.proofs.lemmas.Bool.Decides.{nat_tests}
@@ -17,8 +17,6 @@ use Rattle.quantum_core.specs.Quantum.{Handled, quantum, changes, change_of, cha
 use Rattle.quantum_core.specs.Verdicts.{Judged, judged, verdict, candidates}
 use Rattle.quantum_core.specs.Walk.{IsRead, HasColumns}
 use Rattle.quantum_core.specs.declared.works.SetWork.{SetWork}
-use Rattle.quantum_core.specs.declared.works.Doing.{Doing}
-use Rattle.quantum_core.specs.declared.works.Doing.TheVariants.{Read}
 use Rattle.quantum_core.specs.declared.verdicts.Effect.TheVariants.{Gives, Becomes, Goes}
 use Rattle.quantum_core.specs.declared.verdicts.Verdict.{Verdict}
 use Rattle.quantum_core.specs.declared.verdicts.Verdict.TheVariants.{Blocked, Faulty, PassedOver, Selected}

@@ -1,5 +1,5 @@
 -- The seats of the openers.
-use Rattle.std.proofs.Common.{◌≡◌, ◌<◌, ◌≤◌, ℕ, zero, suc, ◌+◌, ◌-◌, List, [], ◌∷◌, ◌++◌, length, map, get_or, set, Option, Some, None, false, refl, ap, sym, ◌∙◌, arith}
+use Rattle.std.proofs.Common.{◌≡◌, ◌<◌, ℕ, zero, suc, List, [], ◌∷◌, ◌++◌, length, map, get_or, set, Option, Some, None, false, refl, ap, ◌∙◌, arith}
 use Rattle.std.specs.Prelude.{slice_get, slice_set, unwrap_or, option_map, option_and_then}
 use Rattle.std.specs.List.{AllByRecursion}
 use Rattle.std.proofs.lemmas.List.{length_push}
@@ -8,7 +8,6 @@ use Rattle.partition_core.specs.Contents.{seated, note_at, HasEntry, IsSeat}
 use Rattle.partition_core.specs.Changes.{at_seat}
 use Rattle.partition_core.specs.declared.contents.Seat.{Seat}
 use Rattle.partition_core.specs.declared.entries.Entry.{Entry}
-use Rattle.dp_messages.specs.declared.replies.Reply.{Reply}
 
 slice_get-before : {X : Type 0} (xs : List X) (x : X) (i : ℕ) → i < length xs → slice_get (xs ++ x ∷ []) i ≡ slice_get xs i
 slice_get-before [] x i lt = absurd (omega arith)

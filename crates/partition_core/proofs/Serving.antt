@@ -1,19 +1,19 @@
 -- What a partition keeps between two requests, through one new request.
-use Rattle.std.proofs.Common.{◌≡◌, ◌<◌, ℕ, zero, suc, get_or, ◌+◌, ◌-◌, List, [], ◌∷◌, ◌++◌, length, map, Option, Some, None, Bool, true, false, refl, ap, sym, ◌∙◌, subst, arith}
-use Rattle.std.specs.Prelude.{slice_get, slice_set, unwrap_or, max, filter, filter_map, not, All}
-use Rattle.std.specs.List.{AllByRecursion, cons_option, list_any}
+use Rattle.std.proofs.Common.{◌≡◌, ◌<◌, ℕ, zero, suc, get_or, ◌-◌, List, [], ◌∷◌, ◌++◌, length, map, Some, None, refl, ap, sym, ◌∙◌, subst, arith}
+use Rattle.std.specs.Prelude.{slice_get, slice_set, unwrap_or, max, filter, not}
+use Rattle.std.specs.List.{AllByRecursion, cons_option}
 use Rattle.sql_base.specs.Locks.{released, same_txn}
 use Rattle.sql_base.specs.Scripts.{Lies}
 use Rattle.sql_base.specs.declared.lock_names.TxnName.{TxnName}
 use Rattle.key_sequenced.specs.Cells.{settled, ending}
 use Rattle.key_sequenced.specs.declared.Cell.{Cell}
-use Rattle.subset_blocks.specs.Blocks.{closed_of, NumbersDiffer}
+use Rattle.subset_blocks.specs.Blocks.{closed_of}
 use Rattle.dp_messages.specs.declared.requests.Request.{Request}
 use Rattle.partition_core.specs.State.{State, Opener, new_opener, opener_of}
 use Rattle.partition_core.specs.Step.{Answered, Stepped, step, answered, noted}
 use Rattle.partition_core.specs.Kept.{Kept, IsReplayed, served, entry_of}
 use Rattle.partition_core.specs.Contents.{Parts, state_of, kept_of, seated, AreStill, AreReads, IsServing, IsSeat, ReadsColumns}
-use Rattle.partition_core.specs.Changes.{after, tells, changed, noted_parts, at_seat, IsFitting}
+use Rattle.partition_core.specs.Changes.{after, tells, changed, noted_parts, IsFitting}
 use Rattle.partition_core.specs.declared.changes.Change.{Change}
 use Rattle.partition_core.specs.declared.changes.Change.TheVariants.{Stays, Begins, Advances, Closes, Prepares, Commits}
 use Rattle.partition_core.specs.declared.changes.Judgement.{Judgement}

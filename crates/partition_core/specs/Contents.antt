@@ -1,9 +1,8 @@
 -- What the fields of a partition mean.
-use Rattle.std.specs.Prelude.{◌≡◌, ◌<◌, ◌≤◌, ℕ, ◌+◌, List, [], ◌∷◌, ◌++◌, length, map, replicate, slice_get, slice_set, All, Option, Some, None, option_map, option_and_then, false, vec_len, vec_capacity}
+use Rattle.std.specs.Prelude.{◌≡◌, ◌<◌, ℕ, List, [], length, map, replicate, slice_get, All, Option, Some, None, option_map, option_and_then, false, vec_len, vec_capacity}
 use Rattle.std.specs.List.{AllByRecursion}
-use Rattle.sql_base.specs.Rows.{key_width, are_of_kinds}
+use Rattle.sql_base.specs.Rows.{key_width}
 use Rattle.sql_base.specs.declared.lock_names.Lock.{Lock}
-use Rattle.sql_base.specs.declared.lock_names.TxnName.{TxnName}
 use Rattle.sql_base.specs.declared.scripts.Limits.{Limits}
 use Rattle.sql_base.specs.declared.tables.TableDef.{TableDef}
 use Rattle.sql_base.specs.declared.values.Value.{Value}

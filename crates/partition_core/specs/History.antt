@@ -1,5 +1,5 @@
 -- The history of a partition.
-use Rattle.std.specs.Prelude.{◌≡◌, ℕ, List, [], ◌∷◌, take, Option, Some}
+use Rattle.std.specs.Prelude.{◌≡◌, ℕ, List, [], ◌∷◌, take, Some}
 use Rattle.sql_base.specs.Scripts.{Lies}
 use Rattle.partition_core.specs.State.{State}
 use Rattle.partition_core.specs.Step.{step}

@@ -1,5 +1,5 @@
 -- What a partition keeps.
-use Rattle.std.specs.Prelude.{ℕ, ◌-◌, List, [], ◌∷◌, ◌++◌, map, filter, find, replicate, Option, Some, None, option_and_then, unwrap_or, slice_get, slice_set, Bool, false, not, ◌==◌, if◌then◌else◌}
+use Rattle.std.specs.Prelude.{ℕ, ◌-◌, List, [], ◌∷◌, ◌++◌, map, find, replicate, Option, Some, None, option_and_then, unwrap_or, slice_get, slice_set, Bool, false, if◌then◌else◌}
 use Rattle.std.specs.List.{list_any}
 use Rattle.sql_base.specs.Locks.{same_txn}
 use Rattle.sql_base.specs.Rows.{key_of}

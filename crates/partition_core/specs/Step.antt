@@ -1,6 +1,6 @@
 -- What one request does to a partition.
 -- Of the requests that carry code, those without a filter are covered: no code stands for an expression yet.
-use Rattle.std.specs.Prelude.{ℕ, ◌+◌, List, [], ◌∷◌, ◌++◌, length, map, filter, find, max, nat_eq, nat_le, nat_lt, ◌==◌, Option, Some, None, option_map, option_and_then, Bool, true, false, not, ◌&&◌, if◌then◌else◌}
+use Rattle.std.specs.Prelude.{ℕ, List, [], ◌∷◌, length, map, filter, find, max, nat_eq, nat_le, nat_lt, ◌==◌, Option, Some, None, option_map, option_and_then, Bool, true, false, not, ◌&&◌, if◌then◌else◌}
 use Rattle.std.specs.List.{list_all, starts_with}
 use Rattle.sql_base.specs.Keys.{key_eq, key_le}
 use Rattle.sql_base.specs.Rows.{key_of, key_width, kinds, unpacked}
@@ -37,7 +37,7 @@ use Rattle.dp_messages.specs.declared.replies.Reply.TheVariants.{Ended, Redrive,
 use Rattle.dp_messages.specs.declared.requests.Ask.{Ask}
 use Rattle.dp_messages.specs.declared.requests.Ask.TheVariants.{BeginRead, BeginUpdate, BeginDelete, Continue, ReadKey, Insert, LockGranule, Prepare, EndCommit, EndUndo}
 use Rattle.dp_messages.specs.declared.requests.Request.{Request}
-use Rattle.partition_core.specs.State.{State, Opener, opener_of, with_opener, is_live, floor_of, with_live}
+use Rattle.partition_core.specs.State.{State, opener_of, with_opener, is_live, floor_of, with_live}
 use Rattle.partition_core.specs.declared.lives.Live.{Live}
 
 -- a reply, and the partition after it

@@ -14,8 +14,6 @@ mod notes;
 mod openings;
 mod partitions;
 mod shapes;
-#[cfg(test)]
-mod tests;
 
 pub use entries::Entry;
 pub use partitions::{Partition, Pick, Served};

@@ -27,7 +27,7 @@ pub enum Served {
 }
 
 /// What there is for an opener that asks for the reply to a sync.
-#[derive(Debug)]
+#[derive(Clone, Copy, Debug)]
 pub enum Pick<'a> {
     /// The reply to just this sync.
     Reply(&'a Reply),

@@ -1,4 +1,4 @@
-use Rattle.std.proofs.Common.{ap, sym, ◌∙◌, refl, None}
+use Rattle.std.proofs.Common.{ap, sym, ◌∙◌, None}
 use Rattle.std.specs.Prelude.{option_and_then}
 use Rattle.sql_base.specs.Locks.{same_txn}
 use Rattle.partition_core.specs.declared.lives.Live.{Live}

@@ -1,5 +1,5 @@
-use Rattle.std.proofs.Common.{◌<◌, ◌-◌, length, refl, ap, arith, rules, None}
-use Rattle.partition_core.specs.Contents.{Parts, parts_of}
+use Rattle.std.proofs.Common.{◌<◌, ◌-◌, length, refl, rules, None}
+use Rattle.partition_core.specs.Contents.{parts_of}
 use Rattle.partition_core.specs.declared.contents.Seat.{Seat}
 use Rattle.partition_core.proofs.Seats.{set-at_seat}
 use Rattle.partition_core.proofs.contents.Contents.commit.Goals as goal

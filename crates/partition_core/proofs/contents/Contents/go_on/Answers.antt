@@ -1,12 +1,10 @@
-use Rattle.std.proofs.Common.{◌≡◌, ℕ, List, Some, Bool, true, ap, sym, ◌∙◌, subst, refl, All}
+use Rattle.std.proofs.Common.{ℕ, List, ap, sym, ◌∙◌, subst, refl, All}
 use Rattle.sql_base.specs.Keys.{key_eq}
 use Rattle.sql_base.specs.declared.lock_names.Lock.{Lock}
 use Rattle.key_sequenced.specs.declared.Cell.{Cell}
 use Rattle.subset_blocks.specs.Blocks.{find_block, advanced}
-use Rattle.subset_blocks.specs.declared.Numbered.{Numbered}
 use Rattle.quantum_core.specs.Quantum.{quantum}
 use Rattle.quantum_core.specs.Walk.{HasColumns}
-use Rattle.quantum_core.specs.declared.works.SetWork.{SetWork}
 use Rattle.dp_messages.specs.declared.replies.Reply.TheVariants.{Redrive}
 use Rattle.partition_core.specs.Contents.{state_of, parts_of, ReadsColumns}
 use Rattle.partition_core.specs.Step.{Answered}

@@ -1,4 +1,4 @@
-use Rattle.std.proofs.Common.{◌≡◌, ◌<◌, ◌-◌, ℕ, List, length, get_or, set, ap, ◌∙◌, arith, rules, None}
+use Rattle.std.proofs.Common.{◌≡◌, ◌<◌, ◌-◌, List, length, get_or, set, ap, ◌∙◌, rules, None}
 use Rattle.partition_core.specs.Contents.{Parts, parts_of, note_at}
 use Rattle.partition_core.specs.Changes.{at_seat}
 use Rattle.partition_core.specs.declared.contents.Seat.{Seat}
