@@ -3,9 +3,8 @@
 use Rattle.std.specs.Prelude.{◌≡◌, ◌≢◌, ◌≤◌, ◌<◌, ℕ, List, [], take, Option, Some, None, IsSome, IfSome, ◌↔◌, ◌⊎◌}
 use Rattle.std.specs.Io.KnownBytes.{Appends, Keeps}
 use Rattle.outside.specs.Counter.{Rose}
-use Rattle.one_thread.specs.One.{loaded}
 use Rattle.one_thread.specs.Text.{run_text}
-use Rattle.run_record.specs.ThinText.{thin_shown}
+use Rattle.run_record.specs.ThinText.{thin_shown, loaded_records}
 use Rattle.statement_reader.specs.Spells.{Spells, IsFault}
 use Rattle.sql_base.specs.declared.scripts.Script.{Script}
 use Rattle.run_record.specs.declared.records.RunRecord.{RunRecord}
@@ -13,7 +12,7 @@ use Rattle.nonstop_sql.specs.declared.outcome.Outcome.{Outcome}
 
 -- the text of what was kept of a script
 abbrev pub text_of : Script → RunRecord → List ℕ
-text_of script kept = run_text script.tables (thin_shown script kept) (loaded script).records
+text_of script kept = run_text script.tables (thin_shown script kept) (loaded_records script)
 
 -- a script that was read: done with its whole text, or a write failed behind a front of it, or memory was short
 pub record Runs (script : Script) (taken taken' : Option (List ℕ)) (faults faults' : ℕ) (o : Outcome) : Type 0 where
@@ -35,6 +34,7 @@ pub record RunsBytes (bytes : List ℕ) (taken taken' : Option (List ℕ)) (faul
   pub kept : (o.status ≡ 0) ↔ IsSome o.kept
   pub refused : o.status ≡ 1 → SpellsNone bytes × IfSome o.fault (IsFault bytes)
   pub refuses : SpellsNone bytes → (o.status ≡ 1) ⊎ (o.status ≡ 5)
+  pub spelled : o.status ≡ 0 → (script : Script) × Spells bytes script
   pub failed : o.status ≡ 4 → Rose faults faults'
   pub unwritten : o.status ≢ 0 → o.status ≢ 4 → Keeps taken taken'
   pub written : o.status ≡ 0 → (script : Script) → Spells bytes script → IfSome o.kept (λ kept. Appends taken taken' (text_of script kept))

@@ -1,4 +1,6 @@
 //! The run of a script with one session and one partition: each request is served at once.
+ghost use Rattle.std.specs.Prelude.{IsTrue};
+ghost use Rattle.partition_core.specs.Kept.{IsServed};
 ghost use Rattle.statement_reader.specs.Thin.{IsThin};
 
 use commit_journal::Drawn;
@@ -61,18 +63,22 @@ fn step(
     partition: &mut Partition,
     journal: &mut List<Drawn>,
 ) -> Result<bool, Stop> {
-    let answer = match session.next() {
-        Action::Finished => return Ok(false),
-        Action::Commit { name, floor } => Answer::Stamp(draw(journal, name, floor)?),
-        Action::Send { sync, request, .. } => Answer::Reply(ask(alloc, partition, sync, request)?),
-    };
-    if let Answer::Reply(reply) = &answer {
-        if !session.fits(reply) {
-            return Err(Stop::Unfit);
+    match session.next() {
+        Action::Finished => Ok(false),
+        Action::Commit { name, floor } => {
+            let stamp = draw(journal, name, floor)?;
+            session.take(Answer::Stamp(stamp), 0)?;
+            Ok(true)
+        }
+        Action::Send { sync, request, .. } => {
+            let reply = ask(alloc, partition, sync, request)?;
+            if !session.fits(&reply) {
+                return Err(Stop::Unfit);
+            }
+            session.take(Answer::Reply(reply), 0)?;
+            Ok(true)
         }
     }
-    session.take(answer, 0)?;
-    Ok(true)
 }
 
 /// Draws a stamp above the floor and above all stamps so far.
@@ -90,7 +96,7 @@ fn ask(
     sync: u64,
     request: &Request,
 ) -> Result<Reply, Stop> {
-    if !is_served(&request.ask) {
+    if sync == 0 || !is_served(&request.ask) {
         return Err(Stop::Unfit);
     }
     let _served = partition.serve(alloc, 1, sync, request);
@@ -101,9 +107,11 @@ fn ask(
 }
 
 /// Whether the partition serves requests of this kind yet.
-fn is_served(ask: &Ask) -> bool {
+fn is_served(ask: &Ask) -> bool
+    ensures { IsTrue result → IsServed ask.now }
+{
     match ask {
-        Ask::BeginRead { filter, .. } => filter.is_none(),
+        Ask::BeginRead { filter: None, .. } => true,
         Ask::Continue { .. } | Ask::Prepare | Ask::EndCommit { .. } => true,
         _ => false,
     }

@@ -2,7 +2,8 @@
 use Rattle.std.proofs.Common.{◌≡◌, ℕ, ◌*◌, pos, List, [], ◌∷◌, ◌++◌, map, Option, Some, None, refl, lit≤}
 use Rattle.sql_base.specs.Rows.{key_value, packed_value, packed}
 use Rattle.sql_base.specs.Scripts.{Lies}
-use Rattle.partition_core.specs.State.{State, Live, opening}
+use Rattle.partition_core.specs.State.{State, opening}
+use Rattle.partition_core.specs.declared.lives.Live.{Live}
 use Rattle.partition_core.specs.Step.{step}
 use Rattle.partition_core.specs.History.{replay, IsLegal}
 use Rattle.sql_base.specs.declared.faults.Cause.TheVariants as cause
