@@ -1,18 +1,20 @@
 -- How the parts of a run end, put together.
-use Rattle.std.proofs.Common.{◌≡◌, ◌≢◌, ℕ, ◌+◌, ◌<◌, ◌≤◌, List, [], length, take, drop, Option, Some, None, IfSome, IsSome, ◌⊎◌, inl, inr, refl, ap, sym, ◌∙◌, subst, arith}
+use Rattle.std.proofs.Common.{◌≡◌, ◌≢◌, ℕ, ◌+◌, ◌<◌, ◌≤◌, List, [], length, take, drop, Option, Some, None, Err, IfSome, IsSome, ◌⊎◌, inl, inr, refl, ap, sym, ◌∙◌, subst, arith}
 use Rattle.std.specs.Io.KnownBytes.{Appends, Keeps}
 use Rattle.std.specs.Prelude.{count_by, not, ◌==◌}
 use Rattle.std.specs.List.{suffix_len}
 use Rattle.std.proofs.lemmas.Bool.{cases_lt}
 use Rattle.std.proofs.lemmas.List.{take_all, drop_all, take-take, length-take-le}
 use Rattle.outside.specs.Counter.{Rose}
-use Rattle.statement_reader.specs.Spells.{Spells, IsFault}
+use Rattle.statement_reader.specs.Spells.{Spells, Reads, IsFault, IsRefusal}
+use Rattle.statement_reader.specs.declared.faults.ReadFault.{ReadFault}
+use Rattle.statement_reader.specs.declared.faults.ReadFault.TheVariants as reads
 use Rattle.statement_reader.specs.declared.faults.Reason.TheVariants.{TooLarge}
 use Rattle.statement_reader.specs.declared.faults.ScriptFault.{ScriptFault}
 use Rattle.sql_base.specs.declared.scripts.Script.{Script}
 use Rattle.run_record.specs.declared.records.RunRecord.{RunRecord}
 use Rattle.nonstop_sql.specs.declared.outcome.Outcome.{Outcome}
-use Rattle.nonstop_sql.specs.Steps.{Runs, RunsBytes, EndsOn, StepsEnds, SpellsNone, text_of}
+use Rattle.nonstop_sql.specs.Steps.{Runs, RunsBytes, EndsOn, StepsEnds, SpellsNone, refusal_of, text_of}
 
 abbrev pub bare : ℕ → Outcome
 bare status = record { status = status; kept = None; fault = None }
@@ -246,3 +248,9 @@ steps-short left left' taken taken' read_faults read_faults' write_faults write_
       written = λ h. absurd (omega arith);
       front = λ h. absurd (omega arith);
     }
+
+-- the reader gave no script
+pub reader-refused : (bytes : List ℕ) (error : ReadFault) (taken taken' : Option (List ℕ)) (faults faults' : ℕ) → ((s : Script) → Spells bytes s → Reads (Err error) s)
+    → IsRefusal bytes error → Keeps taken taken' → RunsBytes bytes taken taken' faults faults' (refusal_of error)
+reader-refused bytes (reads.Script fault) taken taken' faults faults' only refusal keeps = bytes-refused bytes fault taken taken' faults faults' only refusal keeps
+reader-refused bytes reads.NoMemory taken taken' faults faults' only refusal keeps = bytes-short bytes taken taken' faults faults' keeps

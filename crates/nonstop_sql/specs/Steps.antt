@@ -6,6 +6,8 @@ use Rattle.outside.specs.Counter.{Rose}
 use Rattle.one_thread.specs.Text.{run_text}
 use Rattle.run_record.specs.ThinText.{thin_shown, loaded_records}
 use Rattle.statement_reader.specs.Spells.{Spells, IsFault}
+use Rattle.statement_reader.specs.declared.faults.ReadFault.{ReadFault}
+use Rattle.statement_reader.specs.declared.faults.ReadFault.TheVariants as reads
 use Rattle.sql_base.specs.declared.scripts.Script.{Script}
 use Rattle.run_record.specs.declared.records.RunRecord.{RunRecord}
 use Rattle.nonstop_sql.specs.declared.outcome.Outcome.{Outcome}
@@ -58,3 +60,8 @@ pub record StepsEnds (left left' : Option (List ℕ)) (read_faults read_faults' 
   pub write_failed : o.status ≡ 4 → Rose write_faults write_faults'
   pub unwritten : o.status ≢ 0 → o.status ≢ 4 → Keeps taken taken'
   pub told : IfSome left (λ bytes. EndsOn bytes left' taken taken' o)
+
+-- how bytes end of which no script was read
+abbrev pub refusal_of : ReadFault → Outcome
+refusal_of (reads.Script fault) = record { status = 1; kept = None; fault = Some fault }
+refusal_of reads.NoMemory = record { status = 5; kept = None; fault = None }

@@ -1,3 +1,5 @@
+ghost use Rattle.std.specs.Prelude.{◌≡◌};
+
 use run_record::RunRecord;
 use statement_reader::ScriptFault;
 
@@ -29,6 +31,17 @@ impl Outcome {
             status,
             kept: None,
             fault: None,
+        }
+    }
+
+    /// The outcome of a script with a fault.
+    pub fn refused(fault: ScriptFault) -> Outcome
+        ensures { result ≡ record { status = 1; kept = None; fault = Some fault } }
+    {
+        Outcome {
+            status: 1,
+            kept: None,
+            fault: Some(fault),
         }
     }
 }

@@ -3,7 +3,7 @@ ghost use Rattle.std.specs.Prelude.{◌≡◌, ◌≤◌, ◌<◌, ◌↔◌, �
 ghost use Rattle.std.specs.Io.KnownBytes.{Keeps};
 ghost use Rattle.statement_reader.specs.Thin.{IsThin};
 ghost use Rattle.nonstop_sql.specs.Commands.{IsSteps};
-ghost use Rattle.nonstop_sql.specs.Steps.{Runs, RunsBytes, StepsEnds, text_of};
+ghost use Rattle.nonstop_sql.specs.Steps.{Runs, RunsBytes, StepsEnds, refusal_of, text_of};
 
 use crate::commands::{Command, command_of};
 use crate::driver::{Stop, drive};
@@ -82,12 +82,17 @@ fn run_bytes<K: Sink>(alloc: Global, bytes: &[u8], sink: &mut K) -> Outcome
 {
     match read_script(alloc, bytes) {
         Ok(script) => run_script(alloc, &script, sink),
-        Err(ReadFault::Script(fault)) => Outcome {
-            status: 1,
-            kept: None,
-            fault: Some(fault),
-        },
-        Err(ReadFault::NoMemory) => Outcome::bare(5),
+        Err(error) => refuse(error),
+    }
+}
+
+/// How bytes end of which no script was read.
+fn refuse(error: ReadFault) -> Outcome
+    ensures { result ≡ refusal_of error }
+{
+    match error {
+        ReadFault::Script(fault) => Outcome::refused(fault),
+        ReadFault::NoMemory => Outcome::bare(5),
     }
 }
 

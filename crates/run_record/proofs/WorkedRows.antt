@@ -1,15 +1,12 @@
 -- A worked record: of two sessions over three records, the second inserts one and commits, then the first reads all.
-use Rattle.std.proofs.Common.{◌≡◌, ℕ, ◌*◌, pos, List, [], ◌∷◌, Some, None, refl}
+use Rattle.std.proofs.Common.{◌≡◌, ℕ, ◌*◌, pos, List, [], ◌∷◌, Some, None, true, refl}
 use Rattle.std.specs.Prelude.{codes}
 use Rattle.sql_base.specs.Rows.{key_value, packed}
-use Rattle.one_thread.specs.Text.{run_text}
-use Rattle.one_thread.specs.declared.shown.Shown.{Shown}
-use Rattle.requester_fs.specs.Follows.{Attempt, requester}
+use Rattle.requester_fs.specs.Follows.{Attempt}
 use Rattle.run_record.specs.Base.{base}
 use Rattle.run_record.specs.Openings.{openings}
 use Rattle.run_record.specs.Serial.{RanAlone, final_records, next_stamp}
 use Rattle.run_record.specs.Settled.{settled}
-use Rattle.run_record.specs.Text.{shown_of}
 use Rattle.partition_core.specs.History.{IsLegal, before}
 use Rattle.key_sequenced.specs.Cells.{Keyed}
 use Rattle.sql_base.specs.declared.key_ranges.KeyRange.{KeyRange}
@@ -122,7 +119,3 @@ writer_alone = record { commits = refl; results = refl; changes_are = refl }
 
 final_tables : final_records script kept ≡ (base script kept (next_stamp kept)).records
 final_tables = refl
-
--- what the reader is shown
-reader_text : run_text (table ∷ []) (shown_of (requester script 1) reader ∷ []) [] ≡ codes "TXN 1 1 COMMITTED 2\nROW 1 1 1 1 10\nROW 1 1 1 2 20\nROW 1 1 1 3 30\nROW 1 1 1 9 90\n"
-reader_text = refl

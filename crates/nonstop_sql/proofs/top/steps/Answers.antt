@@ -1,0 +1,10 @@
+use Rattle.std.proofs.Common.{◌≡◌, IfSome, sym, subst}
+use Rattle.nonstop_sql.proofs.Endings.{steps-ran, front_of}
+use Rattle.nonstop_sql.proofs.top.steps.Goals as goal
+
+pub returns-in-Ok : goal.returns-in-Ok
+returns-in-Ok g c =
+    steps-ran (g.S.Source.left c.args.source.now) (g.S.Source.left c.read_to_limit.new.source) (g.K.Sink.taken c.args.sink.now) (g.K.Sink.taken c.run_bytes.new.sink)
+    c.as_slice.result.now (g.S.Source.faults c.args.source.now) (g.S.Source.faults c.read_to_limit.new.source) (g.K.Sink.faults c.args.sink.now)
+    (g.K.Sink.faults c.run_bytes.new.sink) c.run_bytes.result c.run_bytes.ensures
+    (subst (λ b. IfSome (g.S.Source.left c.args.source.now) (λ l. b ≡ front_of l)) (sym c.as_slice.ensures.value) c.in-Ok.ensures.front) c.in-Ok.ensures.rest
