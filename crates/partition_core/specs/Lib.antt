@@ -4,3 +4,4 @@ pub mod History
 pub mod Kept
 pub mod Contents
 pub mod Changes
+pub mod Alone
