@@ -7,3 +7,4 @@ pub mod Settled
 pub mod Seen
 pub mod Text
 pub mod ThinText
+pub mod WholeScan
