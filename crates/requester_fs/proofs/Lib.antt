@@ -4,4 +4,5 @@ pub mod Attempts
 pub mod Complete
 pub mod Sound
 pub mod Standing
+pub mod Nexts
 mod WorkedRows
