@@ -1,5 +1,5 @@
 -- Where its log has led a session of a thin script, it has one thing to do next.
-use Rattle.std.proofs.Common.{◌≡◌, ◌≤◌, ℕ, ◌+◌, List, [], ◌∷◌, ◌++◌, refl, ap, sym, ◌∙◌, subst, arith, append_assoc}
+use Rattle.std.proofs.Common.{◌≡◌, ℕ, ◌+◌, List, [], ◌∷◌, ◌++◌, refl, ap, sym, ◌∙◌, subst, arith, append_assoc}
 use Rattle.std.proofs.lemmas.List.{append-nil}
 use Rattle.sql_base.specs.declared.lock_names.TxnName.{TxnName}
 use Rattle.sql_base.specs.declared.scripts.Script.{Script}
@@ -14,7 +14,7 @@ use Rattle.requester_fs.specs.declared.logs.LogEntry.TheVariants.{Asked, Drew}
 use Rattle.requester_fs.specs.declared.places.Place.{Place}
 use Rattle.requester_fs.specs.declared.places.Stage.TheVariants.{Finished}
 use Rattle.requester_fs.specs.declared.places.Task.{Task}
-use Rattle.requester_fs.specs.declared.places.Task.TheVariants.{Send, Commit, Nothing}
+use Rattle.requester_fs.specs.declared.places.Task.TheVariants.{Send, Commit}
 use Rattle.requester_fs.specs.Follows.{CountSyncs, in_line}
 use Rattle.requester_fs.specs.Leading.{Leads, Does, next_of, sync_behind}
 use Rattle.requester_fs.specs.Places.{task_in, task_at, first_place}
