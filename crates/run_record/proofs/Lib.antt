@@ -1,2 +1,3 @@
 mod WorkedRows
 pub mod ThinOpenings
+pub mod WholeLogs
