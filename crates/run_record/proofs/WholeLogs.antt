@@ -3,7 +3,6 @@ use Rattle.std.proofs.Common.{◌≡◌, ℕ, List, [], ◌∷◌, ◌++◌, map
 use Rattle.std.specs.Prelude.{filter}
 use Rattle.std.specs.List.{AllByRecursion, last_or}
 use Rattle.sql_base.specs.Locks.{same_txn}
-use Rattle.sql_base.specs.declared.lock_names.TxnName.{TxnName}
 use Rattle.dp_messages.specs.declared.replies.Reply.{Reply as PartitionReply}
 use Rattle.dp_messages.specs.declared.replies.Reply.TheVariants as reply
 use Rattle.dp_messages.specs.declared.requests.Ask.{Ask}
@@ -59,8 +58,8 @@ last_or-whole other [] prepare commit = refl
 last_or-whole other (e ∷ scan) prepare commit = last_or-whole (Some e.request.ask) scan prepare commit
 
 -- the entry is one of the attempt
-pub is_of-name : (t : TxnName) (e : Entry) → name_of e ≡ first_attempt → is_of first_attempt e ≡ true
-is_of-name t e h = ap (λ name. same_txn name first_attempt) h
+pub is_of-name : (e : Entry) → name_of e ≡ first_attempt → is_of first_attempt e ≡ true
+is_of-name e h = ap (λ name. same_txn name first_attempt) h
 
 -- the last that an attempt asked in a history of its own is what the last entry asks
 pub last_ask-whole : (scan : List Entry) (prepare commit : Entry) → AllByRecursion (λ e. is_of first_attempt e ≡ true) (whole_history scan prepare commit)
