@@ -1,1 +1,4 @@
 mod WorkedRows
+pub mod ThinOpenings
+pub mod WholeLogs
+pub mod ThinLegal
