@@ -1,3 +1,5 @@
+pub mod Alone
+pub mod AloneOpeners
 pub mod Begun
 pub mod Blocks
 pub mod Finding

@@ -1,0 +1,40 @@
+-- A partition that one transaction alone reads, request by request.
+use Rattle.std.proofs.Common.{◌≡◌, ◌<◌, ◌≤◌, ◌+◌, ◌⊎◌, inl, inr, ℕ, List, [], ◌∷◌, ◌++◌, length, take, Some, false, refl, ap, sym, ◌∙◌, subst, arith}
+use Rattle.std.proofs.lemmas.List.{take-append-le, take_all, length_push}
+use Rattle.std.proofs.lemmas.Bool.{cases_lt}
+use Rattle.sql_base.specs.Scripts.{Lies}
+use Rattle.sql_base.specs.declared.key_ranges.Start.{Start}
+use Rattle.dp_messages.specs.declared.requests.Request.{Request}
+use Rattle.partition_core.specs.Alone.{Reader, Phase, Shows, AsksOn, ReadOn}
+use Rattle.partition_core.specs.History.{replay, before}
+use Rattle.partition_core.specs.Kept.{Kept, served, opener_in, entry_of}
+use Rattle.partition_core.specs.State.{State, Opener, opener_of}
+use Rattle.partition_core.specs.Step.{step, Stepped, Answered, answered}
+use Rattle.partition_core.specs.declared.entries.Entry.{Entry}
+use Rattle.partition_core.proofs.AloneOpeners.{counts-answered, opener_of-with}
+use Rattle.partition_core.proofs.Replays.{step-new}
+
+-- entries that read on to a phase, and one more that reads on from there
+pub ReadOn-push : (r : Reader) (p0 : State) (from phase next : Phase) (es : List Entry) (e : Entry) (start : Start) → ReadOn r p0 from es phase → AsksOn r phase e.request start → Shows r p0 start e.reply next → ReadOn r p0 from (es ++ e ∷ []) next
+ReadOn-push r p0 from phase next [] e start read asks shows = (start, next, subst (λ f. AsksOn r f e.request start) (sym read) asks, shows, refl)
+ReadOn-push r p0 from phase next (x ∷ es) e start read asks shows =
+    (read.0, read.1, read.2, read.3, ReadOn-push r p0 read.1 phase next es e start read.4 asks shows)
+
+still_at : (p0 : State) (h : List Entry) (e : Entry) → ((i : ℕ) → (before p0 h i).cells ≡ p0.cells) → (replay p0 (h ++ e ∷ [])).cells ≡ p0.cells → (i : ℕ) → (length h < i) ⊎ (i ≤ length h) → (before p0 (h ++ e ∷ []) i).cells ≡ p0.cells
+still_at p0 h e so_far now i (inl beyond) =
+    let all : length (h ++ e ∷ []) ≤ i = omega (arith, length_push h e) in
+    ap (λ es. (replay p0 es).cells) (take_all i (h ++ e ∷ []) all) ∙ now
+still_at p0 h e so_far now i (inr within) = ap (λ es. (replay p0 es).cells) (take-append-le i h (e ∷ []) within) ∙ so_far i
+
+-- the cells are still as at the opening with one more entry that leaves them so
+pub still-push : (p0 : State) (h : List Entry) (e : Entry) → ((i : ℕ) → (before p0 h i).cells ≡ p0.cells) → (replay p0 (h ++ e ∷ [])).cells ≡ p0.cells → (i : ℕ) → (before p0 (h ++ e ∷ []) i).cells ≡ p0.cells
+still-push p0 h e so_far now i = still_at p0 h e so_far now i (cases_lt (length h) i)
+
+-- a request with a new sync is kept with its reply
+pub kept_reply : (k : Kept) (opener sync : ℕ) (request : Request) → Lies 1 8 opener → length k.now.openers ≡ 8 → (opener_in k opener).last < sync → let o = opener_in (served k opener sync request) opener in (o.last ≡ sync) × (o.kept ≡ Some (entry_of k.now opener sync request).reply)
+kept_reply k opener sync request lies eight fresh =
+    let a : Answered = answered k.now (record { session = opener; ordinal = request.ordinal }) request.ask in
+    let told : opener_of (step k.now opener sync request).state opener ≡ record (opener_of a.state opener) { last = sync; starved = false; kept = Some a.reply } =
+    ap (λ (s : Stepped). opener_of s.state opener) (step-new k.now opener sync request fresh)
+    ∙ opener_of-with a.state opener (record (opener_of a.state opener) { last = sync; starved = false; kept = Some a.reply }) lies (counts-answered k.now _ request.ask ∙ eight) in
+    (ap (λ (o : Opener). o.last) told, ap (λ (o : Opener). o.kept) told)
