@@ -1,5 +1,6 @@
 pub mod Alone
 pub mod AloneOpeners
+pub mod AloneSteps
 pub mod Begun
 pub mod Blocks
 pub mod Finding
