@@ -4,15 +4,49 @@ use Rattle.std.proofs.lemmas.List.{take-append-le, take_all, length_push}
 use Rattle.std.proofs.lemmas.Bool.{cases_lt}
 use Rattle.sql_base.specs.Scripts.{Lies}
 use Rattle.sql_base.specs.declared.key_ranges.Start.{Start}
+use Rattle.sql_base.specs.declared.key_ranges.Start.TheVariants.{At, After}
+use Rattle.sql_base.specs.declared.scripts.Limits.{Limits}
+use Rattle.sql_base.specs.declared.tables.TableDef.{TableDef}
+use Rattle.sql_base.specs.declared.values.Value.{Value}
+use Rattle.dp_messages.specs.declared.replies.Reply.{Reply}
+use Rattle.dp_messages.specs.declared.replies.Reply.TheVariants.{Done, Floor}
+use Rattle.dp_messages.specs.declared.requests.Ask.{Ask}
+use Rattle.dp_messages.specs.declared.requests.Ask.TheVariants.{Continue, Prepare, EndCommit}
 use Rattle.dp_messages.specs.declared.requests.Request.{Request}
-use Rattle.partition_core.specs.Alone.{Reader, Phase, Shows, AsksOn, ReadOn}
+use Rattle.partition_core.specs.Alone.{Reader, Phase, Fresh, Partway, Whole, Ready, Over, ReadBy, Suits, Shows, AsksOn, ReadOn, by_reader, begin_ask}
 use Rattle.partition_core.specs.History.{replay, before}
 use Rattle.partition_core.specs.Kept.{Kept, served, opener_in, entry_of}
-use Rattle.partition_core.specs.State.{State, Opener, opener_of}
+use Rattle.partition_core.specs.State.{State, Opener, opener_of, opening}
 use Rattle.partition_core.specs.Step.{step, Stepped, Answered, answered}
 use Rattle.partition_core.specs.declared.entries.Entry.{Entry}
+use Rattle.partition_core.proofs.AloneEnds.{answered-prepare, leaves-prepare, answered-commit, leaves-commit}
+use Rattle.partition_core.proofs.AloneSteps.{stands, at_its_stand, step-read, opened-fresh}
 use Rattle.partition_core.proofs.AloneOpeners.{counts-answered, opener_of-with}
 use Rattle.partition_core.proofs.Replays.{step-new}
+
+-- a partition as it opens has been read by nobody
+pub opened-read : (r : Reader) (table : TableDef) (place : ℕ) (limits : Limits) (rows : List (List Value)) → Lies 1 8 r.name.session → ReadBy r Fresh 0 (opening table place limits rows) (opening table place limits rows)
+opened-read r table place limits rows lies = opened-fresh r table place limits rows lies
+
+-- what a request of the reader is answered, and how far it comes by it
+abbrev Comes : Reader → State → ℕ → Ask → Reply → Phase → State → Type 0
+Comes r p0 next ask reply phase p = ((entry_of p r.name.session next (by_reader r ask)).reply ≡ reply) × ReadBy r phase next p0 (step p r.name.session next (by_reader r ask)).state
+
+-- one that has read all prepares, and gets the floor 0
+pub prepared : (r : Reader) (p0 p : State) (sync next : ℕ) → Suits r p0 → ReadBy r Whole sync p0 p → sync < next → ((entry_of p r.name.session next (by_reader r Prepare)).reply ≡ Floor 0) × ReadBy r Ready next p0 (step p r.name.session next (by_reader r Prepare)).state
+prepared r p0 p sync next suits read fresh =
+    at_its_stand (Comes r p0 next Prepare (Floor 0) Ready) r Whole sync p0 p read
+    (λ openers here.
+    let is = answered-prepare r sync p0 openers suits here in
+    (ap (λ (a : Answered). a.reply) is, step-read r Whole Ready sync next p0 (stands r Whole p0 openers) Prepare _ suits.opener here fresh is (leaves-prepare r sync p0 openers here)))
+
+-- one that has prepared commits
+pub committed : (r : Reader) (p0 p : State) (sync next stamp : ℕ) → Suits r p0 → ReadBy r Ready sync p0 p → sync < next → 0 < stamp → ((entry_of p r.name.session next (by_reader r (EndCommit stamp))).reply ≡ Done) × ReadBy r (Over stamp) next p0 (step p r.name.session next (by_reader r (EndCommit stamp))).state
+committed r p0 p sync next stamp suits read fresh pos =
+    at_its_stand (Comes r p0 next (EndCommit stamp) Done (Over stamp)) r Ready sync p0 p read
+    (λ openers here.
+    let is = answered-commit r sync stamp p0 openers suits pos here in
+    (ap (λ (a : Answered). a.reply) is, step-read r Ready (Over stamp) sync next p0 (stands r Ready p0 openers) (EndCommit stamp) _ suits.opener here fresh is (leaves-commit r sync stamp p0 openers suits here)))
 
 -- entries that read on to a phase, and one more that reads on from there
 pub ReadOn-push : (r : Reader) (p0 : State) (from phase next : Phase) (es : List Entry) (e : Entry) (start : Start) → ReadOn r p0 from es phase → AsksOn r phase e.request start → Shows r p0 start e.reply next → ReadOn r p0 from (es ++ e ∷ []) next

@@ -1,12 +1,15 @@
 -- A partition that one transaction alone reads: where it stands, and what a request leaves.
-use Rattle.std.proofs.Common.{◌≡◌, ◌<◌, ◌-◌, ℕ, List, [], ◌∷◌, length, replicate, Some, None, true, false, refl, ap, sym, ◌∙◌, subst, arith}
-use Rattle.std.specs.Prelude.{unwrap_or, slice_get, nat_le, ◌==◌}
+use Rattle.std.proofs.Common.{◌≡◌, ◌<◌, ◌-◌, ℕ, List, [], ◌∷◌, length, replicate, Option, Some, None, ◌&&◌, cond, true, false, refl, ap, sym, ◌∙◌, subst, arith}
+use Rattle.std.specs.Prelude.{unwrap_or, slice_get, nat_le, ◌==◌, not, find, option_and_then}
+use Rattle.std.specs.List.{list_any}
 use Rattle.std.proofs.lemmas.Bool.{eq-eqb}
 use Rattle.std.proofs.lemmas.Bool.Decides.{nat_tests}
 use Rattle.std.proofs.lemmas.List.{length-set, length-replicate, get_or-replicate}
 use Rattle.std.proofs.lemmas.Option.{unwrap_or-slice_get}
+use Rattle.sql_base.specs.Locks.{same_txn}
 use Rattle.sql_base.specs.Scripts.{Lies}
 use Rattle.sql_base.specs.declared.lock_names.Lock.{Lock}
+use Rattle.sql_base.specs.declared.lock_names.TxnName.{TxnName}
 use Rattle.sql_base.specs.declared.scripts.Limits.{Limits}
 use Rattle.sql_base.specs.declared.tables.TableDef.{TableDef}
 use Rattle.sql_base.specs.declared.values.Value.{Value}
@@ -14,10 +17,11 @@ use Rattle.key_sequenced.specs.declared.Cell.{Cell}
 use Rattle.subset_blocks.specs.declared.Numbered.{Numbered}
 use Rattle.quantum_core.specs.declared.works.SetWork.{SetWork}
 use Rattle.dp_messages.specs.declared.replies.Reply.{Reply}
+use Rattle.dp_messages.specs.declared.replies.Reply.TheVariants.{AfterEnd}
 use Rattle.dp_messages.specs.declared.requests.Ask.{Ask}
 use Rattle.partition_core.specs.Alone.{Reader, Phase, Fresh, Partway, Whole, Ready, Over, ReadBy, own_locks, own_blocks, own_lives, high_in, ended_in, by_reader}
-use Rattle.partition_core.specs.State.{State, Opener, new_opener, opener_of, opening}
-use Rattle.partition_core.specs.Step.{Answered, Stepped, answered, noted, step}
+use Rattle.partition_core.specs.State.{State, Opener, new_opener, opener_of, opening, floor_of}
+use Rattle.partition_core.specs.Step.{Answered, Stepped, answered, refused, other_live, unless_other, unless_prepared, noted, step}
 use Rattle.partition_core.specs.declared.lives.Live.{Live}
 use Rattle.partition_core.proofs.AloneOpeners.{opener_of-with}
 use Rattle.partition_core.proofs.Replays.{step-new}
@@ -89,11 +93,36 @@ step-read r from phase sync next p0 q ask a lies read fresh is leaves =
 pub not_ended : (r : Reader) (q : State) → 0 < r.name.ordinal → (opener_of q r.name.session).ended ≡ 0 → nat_le r.name.ordinal (opener_of q r.name.session).ended ≡ false
 not_ended r q pos e = grind (arith, nat_tests)
 
-pub same_session : (r : Reader) → (r.name.session == r.name.session) ≡ true
-same_session r = eq-eqb r.name.session r.name.session refl
+same_number : (n : ℕ) → (n == n) ≡ true
+same_number n = eq-eqb n n refl
 
-pub same_ordinal : (r : Reader) → (r.name.ordinal == r.name.ordinal) ≡ true
-same_ordinal r = eq-eqb r.name.ordinal r.name.ordinal refl
+-- a transaction is itself
+pub same_txn-itself : (t : TxnName) → same_txn t t ≡ true
+same_txn-itself t = rw (same_number t.session, same_number t.ordinal) refl
+
+-- the only live transaction, with its floor
+abbrev pub own_live : TxnName → Option ℕ → Live
+own_live t floor = record { name = t; floor = floor }
+
+-- it is live, with its floor, and no other attempt is
+pub live-own : (t : TxnName) (floor : Option ℕ) → list_any (λ l. same_txn l.name t) (own_live t floor ∷ []) ≡ true
+live-own t floor = rw (same_number t.session, same_number t.ordinal) refl
+
+pub floor-own : (t : TxnName) (floor : Option ℕ) → option_and_then (λ l. l.floor) (find (λ l. same_txn l.name t) (own_live t floor ∷ [])) ≡ floor
+floor-own t floor = rw (same_number t.session, same_number t.ordinal) refl
+
+other-own : (t : TxnName) (floor : Option ℕ) → find (λ l. (l.name.session == t.session) && not (l.name.ordinal == t.ordinal)) (own_live t floor ∷ []) ≡ None
+other-own t floor = rw (same_number t.session, same_number t.ordinal) refl
+
+-- a request of the only live transaction goes by its floor
+pub answered-own : (p : State) (t : TxnName) (ask : Ask) (floor : Option ℕ) → nat_le t.ordinal (opener_of p t.session).ended ≡ false → p.lives ≡ own_live t floor ∷ [] → answered p t ask ≡ unless_prepared p t ask floor
+answered-own p t ask floor counts alone =
+    let last : ℕ = (opener_of p t.session).ended in
+    let no_other : other_live p t ≡ None = ap (find (λ l. (l.name.session == t.session) && not (l.name.ordinal == t.ordinal))) alone ∙ other-own t floor in
+    let its_floor : floor_of p t ≡ floor = ap (λ ls. option_and_then (λ l. l.floor) (find (λ l. same_txn l.name t) ls)) alone ∙ floor-own t floor in
+    ap (λ b. cond b (refused p (AfterEnd last)) (unless_other p t ask (other_live p t))) counts
+    ∙ ap (unless_other p t ask) no_other
+    ∙ ap (unless_prepared p t ask) its_floor
 
 -- a partition as it opens has been read by nobody
 pub opened-fresh : (r : Reader) (table : TableDef) (place : ℕ) (limits : Limits) (rows : List (List Value)) → Lies 1 8 r.name.session → ReadBy r Fresh 0 (opening table place limits rows) (opening table place limits rows)

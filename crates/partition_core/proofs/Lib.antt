@@ -1,4 +1,5 @@
 pub mod Alone
+pub mod AloneEnds
 pub mod AloneOpeners
 pub mod AloneSteps
 pub mod Begun
