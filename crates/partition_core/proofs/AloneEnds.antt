@@ -15,6 +15,7 @@ use Rattle.partition_core.proofs.AloneOpeners.{opener_of-with}
 use Rattle.partition_core.proofs.AloneSteps.{Leaves, stands, not_ended, same_txn-itself, own_live, live-own, floor-own, answered-own}
 use Rattle.partition_core.proofs.Serving.{settled-same}
 
+-- the only live transaction, prepared
 prepared-own : (t : TxnName) → map (prepared t 0) (own_live t None ∷ []) ≡ own_live t (Some 0) ∷ []
 prepared-own t = rw (same_txn-itself t) refl
 
@@ -28,10 +29,12 @@ answered-prepare r sync p0 openers suits read =
     ∙ ap (prepare_from p r.name) (floor-own r.name None)
     ∙ ap by_lives (prepared-own r.name)
 
+-- it is left prepared
 pub leaves-prepare : (r : Reader) (sync : ℕ) (p0 : State) (openers : List Opener) → ReadBy r Whole sync p0 (stands r Whole p0 openers) → Leaves r Ready p0 (stands r Ready p0 openers)
 leaves-prepare r sync p0 openers read =
     record { table = refl; place = refl; limits = refl; cells = refl; locks = refl; blocks = refl; lives = refl; high = refl; openers = read.openers; ended = read.ended }
 
+-- a stamp is above the floor 0
 stamp_above : (stamp : ℕ) → 0 < stamp → nat_le stamp 0 ≡ false
 stamp_above stamp h = grind (arith, nat_tests)
 
@@ -45,6 +48,7 @@ answered-commit r sync stamp p0 openers suits pos read =
     ∙ ap (commit_above p r.name stamp) (floor-own r.name (Some 0))
     ∙ ap (λ b. cond b (refused p (StampLow 0)) (record { reply = Done; state = ends })) (stamp_above stamp pos)
 
+-- it is left ended
 pub leaves-commit : (r : Reader) (sync stamp : ℕ) (p0 : State) (openers : List Opener) → Suits r p0 → ReadBy r Ready sync p0 (stands r Ready p0 openers) → Leaves r (Over stamp) p0 (record (ended (stands r Ready p0 openers) r.name (settled r.name p0.cells)) { high = max 0 stamp })
 leaves-commit r sync stamp p0 openers suits read =
     let now : Opener = record (opener_of (stands r Ready p0 openers) r.name.session) { ended = r.name.ordinal } in

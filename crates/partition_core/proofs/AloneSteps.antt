@@ -31,6 +31,7 @@ abbrev pub stands : Reader → Phase → State → List Opener → State
 stands r phase p0 openers =
     record { table = p0.table; place = p0.place; limits = p0.limits; cells = p0.cells; locks = own_locks r phase; blocks = own_blocks r phase; openers = openers; lives = own_lives r phase; high = high_in phase }
 
+-- a partition that is read by its one reader stands there
 stands_there : (r : Reader) (phase : Phase) (sync : ℕ) (p0 p : State) → ReadBy r phase sync p0 p → p ≡ stands r phase p0 p.openers
 stands_there r phase sync p0 p h =
     let by_table : TableDef → State = λ x. record p { table = x } in
@@ -93,6 +94,7 @@ step-read r from phase sync next p0 q ask a lies read fresh is leaves =
 pub not_ended : (r : Reader) (q : State) → 0 < r.name.ordinal → (opener_of q r.name.session).ended ≡ 0 → nat_le r.name.ordinal (opener_of q r.name.session).ended ≡ false
 not_ended r q pos e = grind (arith, nat_tests)
 
+-- a number is equal to itself
 same_number : (n : ℕ) → (n == n) ≡ true
 same_number n = eq-eqb n n refl
 
@@ -104,13 +106,15 @@ same_txn-itself t = rw (same_number t.session, same_number t.ordinal) refl
 abbrev pub own_live : TxnName → Option ℕ → Live
 own_live t floor = record { name = t; floor = floor }
 
--- it is live, with its floor, and no other attempt is
+-- it is live
 pub live-own : (t : TxnName) (floor : Option ℕ) → list_any (λ l. same_txn l.name t) (own_live t floor ∷ []) ≡ true
 live-own t floor = rw (same_number t.session, same_number t.ordinal) refl
 
+-- its floor is found
 pub floor-own : (t : TxnName) (floor : Option ℕ) → option_and_then (λ l. l.floor) (find (λ l. same_txn l.name t) (own_live t floor ∷ [])) ≡ floor
 floor-own t floor = rw (same_number t.session, same_number t.ordinal) refl
 
+-- no other attempt of its session is live
 other-own : (t : TxnName) (floor : Option ℕ) → find (λ l. (l.name.session == t.session) && not (l.name.ordinal == t.ordinal)) (own_live t floor ∷ []) ≡ None
 other-own t floor = rw (same_number t.session, same_number t.ordinal) refl
 

@@ -28,6 +28,7 @@ use Rattle.quantum_core.specs.declared.works.Doing.TheVariants.{Read}
 use Rattle.quantum_core.specs.declared.works.SetWork.{SetWork}
 use Rattle.quantum_core.proofs.Windows.{in_window, window, rows_in, end_key, end_key-has, all-filter, all-take, window-front, counted, LiesIn, LiesIn-window, Ascends-from_rise}
 
+-- one more number to try
 at_least_step : (p : ℕ → Bool) (n k : ℕ) (b : Bool) → p (suc n) ≡ b → p k ≡ true → (k ≡ suc n) ⊎ (k < suc n) → (k ≤ n → k ≤ greatest p n) → k ≤ cond b (suc n) (greatest p n)
 at_least_step p n k true e passes (inl same) rest = omega arith
 at_least_step p n k true e passes (inr lt) rest = omega arith
@@ -44,12 +45,15 @@ abbrev pub open_verdict : List ℕ → Option (List Value) → Verdict
 open_verdict columns None = PassedOver
 open_verdict columns (Some row) = Selected (Gives (packed columns row))
 
+-- a cell with the verdict on it
 abbrev pub open_judged : List ℕ → Cell → Judged
 open_judged columns cell = record { key = cell.key; verdict = open_verdict columns cell.now }
 
+-- reads these columns of all records
 abbrev pub read_of : List ℕ → SetWork
 read_of columns = record { filter = None; doing = Read columns }
 
+-- without a filter each row is given
 on_row-open : (table : TableDef) (locks : List Lock) (block : Block SetWork) (columns : List ℕ) (key : List ℕ) (now : Option (List Value)) → block.work ≡ read_of columns → on_row table locks block key now ≡ open_verdict columns now
 on_row-open table locks block columns key None e = refl
 on_row-open table locks block columns key (Some row) e = rw e refl
@@ -59,20 +63,24 @@ verdict-open : (table : TableDef) (locks : List Lock) (block : Block SetWork) (c
 verdict-open table locks block columns cell e free =
     ap (λ (o : Option Lock). unless_blocked o (on_row table locks block cell.key cell.now)) free ∙ on_row-open table locks block columns cell.key cell.now e
 
+-- a cell that holds a row isn't hidden
 not_hidden : (block : Block SetWork) (cell : Cell) (now : Option (List Value)) → IsSome now → is_hidden block cell now ≡ false
 not_hidden block cell None h = absurd (false≢true h)
 not_hidden block cell (Some row) h = refl
 
+-- a third that is true adds nothing
 and_true : (a b : Bool) → (a && (b && true)) ≡ (a && b)
 and_true false b = refl
 and_true true false = refl
 and_true true true = refl
 
+-- a cell that holds a row is a candidate where it lies in the window
 is_candidate-window : (block : Block SetWork) (cell : Cell) → IsSome cell.now → is_candidate block cell ≡ in_window block.start block.high cell
 is_candidate-window block cell h =
     ap (λ b. is_from block.start cell.key && (key_le cell.key block.high && not b)) (not_hidden block cell cell.now h)
     ∙ and_true (is_from block.start cell.key) (key_le cell.key block.high)
 
+-- one more element under two functions that agree
 map_either : {X Y : Type 0} (f g : X → Y) (x : X) (xs ys : List X) (b : Bool) → f x ≡ g x → map f xs ≡ map g ys → map f (cond b (x ∷ xs) xs) ≡ map g (cond b (x ∷ ys) ys)
 map_either f g x xs ys true e h = ap (λ z. z ∷ map f xs) e ∙ ap (λ zs. g x ∷ zs) h
 map_either f g x xs ys false e h = h
@@ -88,6 +96,7 @@ judged-open table locks block columns (cell ∷ cells) e free stand =
     ap (λ b. map as_judged (cond b (cell ∷ others) others)) (is_candidate-window block cell stand.0)
     ∙ map_either as_judged (open_judged columns) cell others (window block.start block.high cells) (in_window block.start block.high cell) (ap one (verdict-open table locks block columns cell e (free cell.key))) rest
 
+-- the rows of cells that nothing bars
 rows-open : (columns : List ℕ) (cells : List Cell) → rows_of (map (open_judged columns) cells) ≡ rows_in columns cells
 rows-open columns [] = refl
 rows-open columns (cell ∷ cells) =
@@ -97,6 +106,7 @@ rows-open columns (cell ∷ cells) =
     row_of-open columns None = refl
     row_of-open columns (Some row) = refl
 
+-- the last key of cells that nothing bars
 last_key-open : (columns : List ℕ) (cells : List Cell) → last_key (map (open_judged columns) cells) ≡ end_key cells
 last_key-open columns [] = refl
 last_key-open columns (cell ∷ []) = refl
@@ -106,6 +116,7 @@ last_key-open columns (cell ∷ other ∷ cells) = last_key-open columns (other 
 abbrev pub Fits : Limits → List ℕ → Cell → Type 0
 Fits limits columns cell = IfSome cell.now (λ row. length (packed columns row) + 2 ≤ limits.buffer)
 
+-- one row fits
 fits_one : (limits : Limits) (columns key : List ℕ) (now : Option (List Value)) → IfSome now (λ row. length (packed columns row) + 2 ≤ limits.buffer) → may_handle limits (record { key = key; verdict = open_verdict columns now } ∷ []) ≡ true
 fits_one limits columns key None h = le-leb _ _ (omega arith)
 fits_one limits columns key (Some row) h = le-leb _ _ (omega (arith, h))
@@ -128,6 +139,7 @@ ShowsWindow columns cells start high (Redrive last cause rows changed) =
 ShowsWindow columns cells start high (Locked lock) = ⊥
 ShowsWindow columns cells start high (Failed key fault) = ⊥
 
+-- only no cells have no last key
 no_end : (cells : List Cell) → end_key cells ≡ None → length cells ≡ 0
 no_end [] e = refl
 no_end (cell ∷ []) e = absurd (cc)

@@ -13,9 +13,11 @@ use Rattle.key_sequenced.specs.declared.Cell.{Cell}
 use Rattle.quantum_core.specs.Verdicts.{is_from}
 use Rattle.quantum_core.proofs.KeyOrders.{lt_from_not_le, not_lt_from_le, not_le_from_lt, le_from_lt, key_le-refl, key_le-trans, lt_le-trans, le_lt-trans, lt-trans}
 
+-- from the start to the high key
 abbrev pub in_window : Start → List ℕ → Cell → Bool
 in_window start high cell = is_from start cell.key && key_le cell.key high
 
+-- the cells from a start to a high key
 abbrev pub window : Start → List ℕ → List Cell → List Cell
 window start high cells = filter (in_window start high) cells
 
@@ -24,6 +26,7 @@ abbrev pub Ascends : List Cell → Type 0
 Ascends [] = Unit {0}
 Ascends (cell ∷ cells) = AllByRecursion (λ other. key_lt cell.key other.key ≡ true) cells × Ascends cells
 
+-- all their keys are above a key
 abbrev pub AreAbove : List ℕ → List Cell → Type 0
 AreAbove key cells = AllByRecursion (λ cell. key_lt key cell.key ≡ true) cells
 
@@ -46,16 +49,19 @@ all-filter P p [] h = tt
 all-filter P p (x ∷ xs) h =
     elim (p x) as (λ b. AllByRecursion P (cond b (x ∷ filter p xs) (filter p xs))) [ true ↦ (h.0, all-filter P p xs h.1) | false ↦ all-filter P p xs h.1 ]
 
+-- a filter keeps the order
 pub Ascends-filter : (p : Cell → Bool) (cells : List Cell) → Ascends cells → Ascends (filter p cells)
 Ascends-filter p [] h = tt
 Ascends-filter p (cell ∷ cells) h =
     let above : AreAbove cell.key (filter p cells) = all-filter (λ other. key_lt cell.key other.key ≡ true) p cells h.0 in
     elim (p cell) as (λ b. Ascends (cond b (cell ∷ filter p cells) (filter p cells))) [ true ↦ (above, Ascends-filter p cells h.1) | false ↦ Ascends-filter p cells h.1 ]
 
+-- the first of two that are true together
 and_left : (a b : Bool) → (a && b) ≡ true → a ≡ true
 and_left true b h = refl
 and_left false b h = h
 
+-- the second of two that are true together
 and_right : (a b : Bool) → (a && b) ≡ true → b ≡ true
 and_right true b h = h
 and_right false b h = absurd (false≢true h)
@@ -64,6 +70,7 @@ and_right false b h = absurd (false≢true h)
 abbrev pub LiesIn : Start → List ℕ → Cell → Type 0
 LiesIn start high cell = (is_from start cell.key ≡ true) × (key_le cell.key high ≡ true)
 
+-- one more cell, if it lies in the window
 kept_in : (start : Start) (high : List ℕ) (cell : Cell) (cells : List Cell) (b : Bool) → in_window start high cell ≡ b → AllByRecursion (LiesIn start high) cells → AllByRecursion (LiesIn start high) (cond b (cell ∷ cells) cells)
 kept_in start high cell cells true e h = ((and_left (is_from start cell.key) (key_le cell.key high) e, and_right (is_from start cell.key) (key_le cell.key high) e), h)
 kept_in start high cell cells false e h = h
@@ -84,15 +91,18 @@ end_key [] = None
 end_key (cell ∷ []) = Some cell.key
 end_key (cell ∷ other ∷ cells) = end_key (other ∷ cells)
 
+-- what holds of each key holds of the last
 pub end_key-has : (P : List ℕ → Type 0) (cells : List Cell) (key : List ℕ) → AllByRecursion (λ cell. P cell.key) cells → end_key cells ≡ Some key → P key
 end_key-has P [] key h e = absurd (cc)
 end_key-has P (cell ∷ []) key h e = let same : cell.key ≡ key = cc in subst P same h.0
 end_key-has P (cell ∷ other ∷ cells) key h e = end_key-has P (other ∷ cells) key h.1 e
 
+-- no cell above a key is at most it
 none-up_to : (key : List ℕ) (cells : List Cell) → AreAbove key cells → filter (λ cell. key_le cell.key key) cells ≡ []
 none-up_to key [] h = refl
 none-up_to key (cell ∷ cells) h = rw (not_le_from_lt cell.key key h.0) (none-up_to key cells h.1)
 
+-- of ascending cells the first alone is at most its key
 front-one : (cell : Cell) (cells : List Cell) (key : List ℕ) → AreAbove cell.key cells → Some cell.key ≡ Some key → filter (λ c. key_le c.key key) (cell ∷ cells) ≡ cell ∷ []
 front-one cell cells key above e =
     let same : cell.key ≡ key = cc in
@@ -100,6 +110,7 @@ front-one cell cells key above e =
     let rest : filter (λ c. key_le c.key key) cells ≡ [] = none-up_to key cells (subst (λ k. AreAbove k cells) same above) in
     rw here (ap (λ cs. cell ∷ cs) rest)
 
+-- what holds of each element holds of each of the first n
 pub all-take : {X : Type 0} (P : X → Type 0) (n : ℕ) (xs : List X) → AllByRecursion P xs → AllByRecursion P (take n xs)
 all-take P zero xs h = tt
 all-take P (suc n) [] h = tt
@@ -116,6 +127,7 @@ front (cell ∷ other ∷ cells) h (suc (suc n)) key e =
     let rest : filter (λ c. key_le c.key key) (other ∷ cells) ≡ other ∷ take n cells = front (other ∷ cells) h.1 (suc n) key e in
     rw (le_from_lt cell.key key below) (ap (λ cs. cell ∷ cs) rest)
 
+-- one more element through two filters
 twice_at : {X : Type 0} (q : X → Bool) (x : X) (b : Bool) (kept both : List X) → filter q kept ≡ both → filter q (cond b (x ∷ kept) kept) ≡ cond (b && q x) (x ∷ both) both
 twice_at q x true kept both e = ap (λ xs. cond (q x) (x ∷ xs) xs) e
 twice_at q x false kept both e = e
@@ -125,6 +137,7 @@ twice : {X : Type 0} (p q r : X → Bool) → ((x : X) → (p x && q x) ≡ r x)
 twice p q r h [] = refl
 twice p q r h (x ∷ xs) = twice_at q x (p x) (filter p xs) (filter r xs) (twice p q r h xs) ∙ ap (λ b. cond b (x ∷ filter r xs) (filter r xs)) (h x)
 
+-- what is within a lower bound is within the upper one
 narrower_at : (from within up_to : Bool) → (up_to ≡ true → within ≡ true) → ((from && within) && up_to) ≡ (from && up_to)
 narrower_at false within up_to h = refl
 narrower_at true within false h = elim within as (λ b. (b && false) ≡ false) [ true ↦ refl | false ↦ refl ]
@@ -136,21 +149,24 @@ window-front start high cells h n key e within =
     sym (twice (in_window start high) (λ c. key_le c.key key) (in_window start key) (λ c. narrower_at (is_from start c.key) (key_le c.key high) (key_le c.key key) (λ up_to. key_le-trans c.key key high up_to within)) cells)
     ∙ front (window start high cells) (Ascends-filter (in_window start high) cells h) n key e
 
--- beyond a key, the window up to it is empty, and the one behind it is the whole
+-- beyond a key the window up to it is empty
 window-none : (start : Start) (key : List ℕ) (cells : List Cell) → AreAbove key cells → window start key cells ≡ []
 window-none start key [] above = refl
 window-none start key (cell ∷ cells) above =
     rw (not_le_from_lt cell.key key above.0, window-none start key cells above.1) (elim (is_from start cell.key) as (λ b. cond (b && false) (cell ∷ []) [] ≡ []) [ true ↦ refl | false ↦ refl ])
 
+-- beyond a key the window behind it is the whole
 window-all : (start : Start) (key high : List ℕ) (cells : List Cell) → is_from start key ≡ true → AreAbove key cells → window (After key) high cells ≡ window start high cells
 window-all start key high [] from above = refl
 window-all start key high (cell ∷ cells) from above =
     rw (above.0, is_from-above start key cell.key from above.0, window-all start key high cells from above.1) refl
 
+-- one more cell at most the key
 split_at : (from within : Bool) (cell : Cell) (front back whole : List Cell) → within ≡ true → front ++ back ≡ whole → cond (from && true) (cell ∷ front) front ++ back ≡ cond (from && within) (cell ∷ whole) whole
 split_at true within cell front back whole e h = rw e (ap (λ cs. cell ∷ cs) h)
 split_at false within cell front back whole e h = h
 
+-- one more cell, by whether it is at most the key
 split_by : (start : Start) (key high : List ℕ) (cell : Cell) (cells : List Cell) → AreAbove cell.key cells → is_from start key ≡ true → key_le key high ≡ true → window start key cells ++ window (After key) high cells ≡ window start high cells → (b : Bool) → key_le cell.key key ≡ b → window start key (cell ∷ cells) ++ window (After key) high (cell ∷ cells) ≡ window start high (cell ∷ cells)
 split_by start key high cell cells rising from within rest true e =
     rw (e, not_lt_from_le cell.key key e)
@@ -166,6 +182,7 @@ window-split start key high [] h from within = refl
 window-split start key high (cell ∷ cells) h from within =
     split_by start key high cell cells h.0 from within (window-split start key high cells h.1 from within) (key_le cell.key key) refl
 
+-- one more cell counted, by whether it is at most the key
 counted_at : (from up_to beyond : Bool) (cell : Cell) (cells : List Cell) (n : ℕ) → (up_to ≡ true → beyond ≡ false) → (up_to ≡ false → (beyond ≡ true) × (from ≡ true)) → cond from 1 0 + (length cells + n) ≡ length (cond (from && up_to) (cell ∷ cells) cells) + (cond beyond 1 0 + n)
 counted_at from true beyond cell cells n low high = rw (low refl) (elim from as (λ b. cond b 1 0 + (length cells + n) ≡ length (cond (b && true) (cell ∷ cells) cells) + (0 + n)) [ true ↦ omega arith | false ↦ omega arith ])
 counted_at from false beyond cell cells n low high = rw ((high refl).0, (high refl).1) (omega arith)
