@@ -1,3 +1,9 @@
+pub mod Alone
+pub mod AloneEnds
+pub mod AloneOpeners
+pub mod AloneReads
+pub mod AloneRows
+pub mod AloneSteps
 pub mod Begun
 pub mod Blocks
 pub mod Finding

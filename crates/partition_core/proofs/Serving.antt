@@ -23,7 +23,7 @@ use Rattle.partition_core.proofs.Blocks.{kept-filter, kept-push, NumbersDiffer-f
 use Rattle.partition_core.proofs.Replays.{IsReplayed-served, step-new}
 use Rattle.partition_core.proofs.Seats.{seated-at, seated-noted, length-at_seat, IsSeat-noted, IsSeat-ended}
 
-settled-same : (t : TxnName) (cells : List Cell) → AllByRecursion (λ cell. cell.writer ≡ None) cells → settled t cells ≡ cells
+pub settled-same : (t : TxnName) (cells : List Cell) → AllByRecursion (λ cell. cell.writer ≡ None) cells → settled t cells ≡ cells
 settled-same t [] h = refl
 settled-same t (cell ∷ cells) h =
     ap (λ w. cons_option (ending t (λ c. c.now) cell w) (settled t cells)) h.0 ∙ ap (λ cs. cell ∷ cs) (settled-same t cells h.1)
