@@ -1,1 +1,4 @@
 mod WorkedRows
+pub mod ScanTiles
+pub mod ThinReading
+pub mod ThinTiles
