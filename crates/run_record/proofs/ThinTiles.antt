@@ -6,16 +6,14 @@ use Rattle.sql_base.specs.declared.key_ranges.Start.TheVariants.{At}
 use Rattle.sql_base.specs.declared.scripts.Script.{Script}
 use Rattle.sql_base.specs.declared.tables.TableDef.{TableDef}
 use Rattle.partition_core.specs.Alone.{Fresh}
-use Rattle.partition_core.specs.declared.entries.Entry.{Entry}
-use Rattle.requester_fs.specs.Follows.{Attempt, Reads, IsPart, projection, requester, works_of}
-use Rattle.requester_fs.specs.declared.logs.LogEntry.{LogEntry}
+use Rattle.requester_fs.specs.Follows.{Attempt, Reads, IsPart, requester, works_of}
 use Rattle.requester_fs.proofs.ThinPlans.{select, first_sent, thin-plan}
 use Rattle.run_record.specs.Openings.{openings, log_of}
 use Rattle.run_record.specs.Tiles.{FinishedTile, PieceTiles, SentTiles, Tiles, TilesOn}
 use Rattle.run_record.specs.WholeScan.{IsRun, WholeScan, asked, scan_opening, scan_reader, whole_history}
 use Rattle.run_record.specs.declared.records.RunRecord.{RunRecord}
 use Rattle.run_record.proofs.ScanTiles.{StandsStill, among_all, around_each, covers, exacts}
-use Rattle.run_record.proofs.ThinReading.{OneReading, only_attempt, only_attempts, only_session, thin_table}
+use Rattle.run_record.proofs.ThinReading.{OneReading, all_for, only_attempt, only_attempts, only_session, thin_table}
 
 -- what is in a list of one is that one
 only_one : {A : Type 0} (x y : A) (xs : List A) → xs ≡ x ∷ [] → Contains xs y → y ≡ x
@@ -32,11 +30,6 @@ only_there x y xs place is e = at_front place (subst (λ l. slice_get l place �
     at_front : (k : ℕ) → slice_get (x ∷ []) k ≡ Some y → (k ≡ 0) × (y ≡ x)
     at_front zero h = (refl, cc)
     at_front (suc k) h = absurd cc
-
--- all entries were asked of the one partition
-all_for : (es : List Entry) → projection (map asked es) first_sent ≡ map asked es
-all_for [] = refl
-all_for (e ∷ es) = ap (λ (l : List LogEntry). asked e ∷ l) (all_for es)
 
 module _ (script : Script) (table : TableDef) (kept : RunRecord) (run : IsRun script) (w : WholeScan script table kept) (one : OneReading script w.scan w.prepare w.commit)
     (opens : openings script ≡ scan_opening script table ∷ []) where
@@ -56,7 +49,7 @@ module _ (script : Script) (table : TableDef) (kept : RunRecord) (run : IsRun sc
   -- which is what its statement asks for
   scan_tiles : Tiles script kept 1 select (map asked w.scan)
   scan_tiles =
-      let plan = thin-plan (requester script 1) table w.tables (thin_table script table kept run w one) in
+      let plan = thin-plan (requester script 1) table w.tables (thin_table script table kept run w) in
       let there : slice_get script.tables 0 ≡ Some table = rw w.tables refl in
       let projected = subst (λ entries. PieceTiles script kept 1 table select scan_reader.range entries) (sym (all_for w.scan)) piece_tiles in
       let sent : SentTiles script kept 1 table select (map asked w.scan) first_sent = (scan_reader.range, refl, projected) in
@@ -66,8 +59,8 @@ module _ (script : Script) (table : TableDef) (kept : RunRecord) (run : IsRun sc
   pub tiles-whole : FinishedTile script kept
   tiles-whole session attempts a statement part lies reads holds finished =
       let first : session ≡ 1 = only_session script run.thin session lies in
-      let reads_first : Reads IsPart (requester script 1) (works_of script 1) (log_of kept 1) attempts = subst (λ n. Reads IsPart (requester script n) (works_of script n) (log_of kept n) attempts) first reads in
-      let same : a ≡ only_attempt w.scan w.prepare w.commit = only_one (only_attempt w.scan w.prepare w.commit) a attempts (only_attempts script table kept run w one attempts reads_first) holds in
+      let reads_first = subst (λ n. Reads IsPart (requester script n) (works_of script n) (log_of kept n) attempts) first reads in
+      let same = only_one (only_attempt w.scan w.prepare w.commit) a attempts (only_attempts script table kept run w one attempts reads_first) holds in
       let asks = only_there select statement a.work.statements finished.place (ap (λ (b : Attempt). b.work.statements) same) finished.statement_at in
       let shows = only_there (map asked w.scan) part a.parts finished.place (ap (λ (b : Attempt). b.parts) same) finished.part_at in
       subst (λ n. Tiles script kept n statement part) (sym first)
