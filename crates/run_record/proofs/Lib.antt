@@ -2,3 +2,8 @@ mod WorkedRows
 pub mod ThinOpenings
 pub mod WholeLogs
 pub mod ThinLegal
+pub mod ScanTiles
+pub mod ThinReading
+pub mod ThinTiles
+pub mod ThinAnswer
+pub mod ThinShown
