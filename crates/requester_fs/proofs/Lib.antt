@@ -4,4 +4,6 @@ pub mod Attempts
 pub mod Complete
 pub mod Sound
 pub mod Standing
+pub mod Nexts
+pub mod Readings
 mod WorkedRows

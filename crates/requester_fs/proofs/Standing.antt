@@ -193,7 +193,7 @@ module _ (script : Script) (thin : IsThin script) where
       record { syncs = syncs; entries = tries.2; attempts_are = (tries.0, [], sym (append-nil tries.0), tries.1, refl) } in
       subst (λ ws. FollowsInLine r ws log) (sym works) (tries.0, reads)
 
-  in_line_leads : (log : List LogEntry) → in_line script 1 log → (q : Place) × Leads r.limits.patience 1 (first_place r.limits) log q × (q.stage ≡ Finished)
+  pub in_line_leads : (log : List LogEntry) → in_line script 1 log → (q : Place) × Leads r.limits.patience 1 (first_place r.limits) log q × (q.stage ≡ Finished)
   in_line_leads log h =
       let follows : FollowsInLine r (scan ∷ []) log = subst (λ ws. FollowsInLine r ws log) works h in
       let reads = follows.1 in

@@ -4,3 +4,7 @@ pub mod ThinReading
 pub mod ThinTiles
 pub mod ThinAnswer
 pub mod ThinShown
+pub mod ThinOpenings
+pub mod WholeLogs
+pub mod ThinLegal
+pub mod ThinWhole
