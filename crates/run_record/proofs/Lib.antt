@@ -7,3 +7,4 @@ pub mod ThinReading
 pub mod ThinTiles
 pub mod ThinAnswer
 pub mod ThinShown
+pub mod ThinWhole
