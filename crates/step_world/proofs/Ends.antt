@@ -1,0 +1,85 @@
+-- A run whose session has finished kept the record of a whole scan.
+use Rattle.std.proofs.Common.{◌≡◌, ℕ, List, [], ◌∷◌, Ok, Err, IfOk, Result, refl, ap, sym, ◌∙◌, subst}
+use Rattle.std.specs.List.{AllByRecursion}
+use Rattle.sql_base.specs.declared.faults.NoMemory.{NoMemory}
+use Rattle.sql_base.specs.declared.scripts.Script.{Script}
+use Rattle.commit_journal.specs.declared.Drawn.{Drawn}
+use Rattle.partition_core.specs.History.{IsLegal, before}
+use Rattle.partition_core.specs.Kept.{Kept}
+use Rattle.requester_fs.specs.Follows.{in_line}
+use Rattle.requester_fs.specs.Leading.{next_of}
+use Rattle.requester_fs.specs.Places.{task_in}
+use Rattle.requester_fs.specs.Sessions.{Next, Ends, Working}
+use Rattle.requester_fs.specs.declared.places.Stage.{Stage}
+use Rattle.requester_fs.specs.declared.places.Stage.TheVariants.{Finished}
+use Rattle.one_thread.specs.Answer.{answer_text}
+use Rattle.one_thread.specs.Text.{run_text}
+use Rattle.run_record.proofs.ThinLegal.{legal-whole}
+use Rattle.run_record.proofs.ThinWhole.{tiles-thin, text-thin, is_text-thin}
+use Rattle.run_record.specs.Legal.{Legal}
+use Rattle.run_record.specs.Openings.{log_of}
+use Rattle.run_record.specs.Text.{IsText}
+use Rattle.run_record.specs.ThinText.{loaded_records, thin_shown}
+use Rattle.run_record.specs.Tiles.{FinishedTile}
+use Rattle.run_record.specs.WholeScan.{WholeScan, scan_opening}
+use Rattle.run_record.specs.declared.records.RunRecord.{RunRecord}
+use Rattle.step_world.specs.Running.{Running, Stands}
+use Rattle.step_world.proofs.Sends.{next_is}
+
+-- what is kept of a run
+abbrev pub kept_of : Working → Kept → List Drawn → RunRecord
+kept_of s k journal = record { histories = k.history ∷ []; journal = journal; logs = s.log ∷ []; acts = [] }
+
+finished_stage : (stage : Stage) (n : ℕ) → next_of 1 n 1 (task_in 1 stage) ≡ Ends → stage ≡ Finished
+finished_stage Finished n h = refl
+finished_stage other n h = absurd (cc h)
+
+pub ends_whole : (script : Script) (s : Working) (k : Kept) (journal : List Drawn) (run : Running script s k journal) → s.next ≡ Ends → WholeScan script run.table (kept_of s k journal)
+ends_whole script s k journal run ends =
+    let p0 = scan_opening script run.table in
+    let stage = finished_stage run.place.stage _ (sym (next_is script s k journal run) ∙ ends) in
+    let stands = subst (λ st. Stands p0 st run.phase k.history s.log journal) stage run.stands in
+    let h = stands.1 in
+    record {
+      tables = run.tables;
+      scan = h.scan;
+      prepare = h.prepare;
+      commit = h.commit;
+      histories = ap (λ es. es ∷ []) h.served;
+      logs = ap (λ es. es ∷ []) h.logged;
+      journal = h.drawn;
+      openers = subst (λ es. AllByRecursion (λ e. e.opener ≡ 1) es) h.served run.openers;
+      legal = subst (IsLegal p0) h.served (subst (λ p. IsLegal p k.history) run.opening run.replayed.legal);
+      still = subst (λ es. (i : ℕ) → (before p0 es i).cells ≡ p0.cells) h.served run.still;
+      read = h.read;
+      prepares = h.prepared.request;
+      floor = h.prepared.floor;
+      commits = h.committed.request;
+      done = h.committed.done;
+      follows = subst (in_line script 1) h.logged (run.session.ends_where_whole.0 ends);
+    }
+
+-- what holds of the record that is kept holds of the one that is given
+pub of_kept : (result : Result RunRecord NoMemory) (kept : RunRecord) (P : RunRecord → Type 0) → IfOk result (λ given. given ≡ kept) → P kept → IfOk result P
+of_kept (Ok given) kept P h p = subst P (sym h) p
+of_kept (Err error) kept P h p = h
+
+-- so it is the record of a run of the script
+pub record EndOfRun (script : Script) (kept : RunRecord) : Type 0 where
+  pub legal : Legal script kept
+  pub tiles : FinishedTile script kept
+  pub in_line_is : in_line script 1 (log_of kept 1)
+  pub text : IsText script kept (answer_text script)
+  pub shown : run_text script.tables (thin_shown script kept) (loaded_records script) ≡ answer_text script
+
+pub end_of_run : (script : Script) (s : Working) (k : Kept) (journal : List Drawn) → Running script s k journal → s.next ≡ Ends → EndOfRun script (kept_of s k journal)
+end_of_run script s k journal run ends =
+    let whole = ends_whole script s k journal run ends in
+    let kept = kept_of s k journal in
+    record {
+      legal = legal-whole script run.table kept run.run whole;
+      tiles = tiles-thin script run.table kept run.run whole;
+      in_line_is = run.session.ends_where_whole.0 ends;
+      text = is_text-thin script run.table kept run.run whole run.suits.rise;
+      shown = text-thin script run.table kept run.run whole run.suits.rise;
+    }
