@@ -1,13 +1,13 @@
 -- The one reader of a partition prepares and commits.
-use Rattle.std.proofs.Common.{◌≡◌, ◌<◌, ◌-◌, ℕ, List, [], ◌∷◌, length, map, cond, Some, None, true, false, refl, ap, sym, ◌∙◌, arith}
-use Rattle.std.specs.Prelude.{nat_le, max, ◌==◌}
+use Rattle.std.proofs.Common.{◌≡◌, ◌<◌, ◌-◌, ℕ, List, [], ◌∷◌, map, cond, Some, None, false, refl, ap, ◌∙◌, arith}
+use Rattle.std.specs.Prelude.{nat_le, max}
 use Rattle.std.proofs.lemmas.Bool.Decides.{nat_tests}
 use Rattle.std.proofs.lemmas.List.{length-set}
 use Rattle.sql_base.specs.declared.lock_names.TxnName.{TxnName}
 use Rattle.key_sequenced.specs.Cells.{settled}
 use Rattle.dp_messages.specs.declared.replies.Reply.TheVariants.{Done, Floor, NotKnown, StampLow}
 use Rattle.dp_messages.specs.declared.requests.Ask.TheVariants.{Prepare, EndCommit}
-use Rattle.partition_core.specs.Alone.{Reader, Phase, Whole, Ready, Over, ReadBy, Suits}
+use Rattle.partition_core.specs.Alone.{Reader, Whole, Ready, Over, ReadBy, Suits}
 use Rattle.partition_core.specs.State.{State, Opener, opener_of, floor_of}
 use Rattle.partition_core.specs.Step.{Answered, answered, refused, prepared, prepare_from, commit_above, ended}
 use Rattle.partition_core.specs.declared.lives.Live.{Live}

@@ -1,6 +1,6 @@
 -- The openers of a partition through one request.
-use Rattle.std.proofs.Common.{◌≡◌, ◌<◌, ◌-◌, ℕ, List, [], ◌∷◌, length, Option, Some, None, Bool, true, false, cond, refl, ap, sym, ◌∙◌, arith}
-use Rattle.std.specs.Prelude.{unwrap_or, slice_get, slice_set, max, nat_le, nat_lt, ◌&&◌, option_map, option_and_then}
+use Rattle.std.proofs.Common.{◌≡◌, ◌<◌, ◌-◌, ℕ, List, length, Option, Some, None, Bool, true, false, cond, refl, ◌∙◌, arith}
+use Rattle.std.specs.Prelude.{slice_set, max, nat_le, nat_lt, ◌&&◌, option_map, option_and_then}
 use Rattle.std.proofs.lemmas.List.{length-set, get_or-set_same}
 use Rattle.std.proofs.lemmas.Option.{unwrap_or-slice_get}
 use Rattle.sql_base.specs.Keys.{key_eq}
@@ -32,7 +32,7 @@ use Rattle.dp_messages.specs.declared.replies.Reply.TheVariants.{Done, AfterEnd,
 use Rattle.dp_messages.specs.declared.requests.Ask.{Ask}
 use Rattle.dp_messages.specs.declared.requests.Ask.TheVariants.{BeginRead, BeginUpdate, BeginDelete, Continue, ReadKey, Insert, LockGranule, Prepare, EndCommit, EndUndo}
 use Rattle.partition_core.specs.State.{State, Opener, new_opener, opener_of, with_opener, with_live, is_live, floor_of}
-use Rattle.partition_core.specs.Step.{Answered, refused, filter_of, sets_of, set_work, is_key_here, is_shaped, are_columns_here, may_change, kept_key, as_row, against_granule, begins, other_live, with_granule, after_first, first_quantum, begin_with, begin, after_next, goes_on, read_key, insert_checked, insert_beside, insert_against, insert_row, lock_against, lock_granule, prepare_from, prepare, ended, commit_above, end_commit, by_kind, is_closing, unless_prepared, unless_other, answered, noted}
+use Rattle.partition_core.specs.Step.{Answered, refused, filter_of, sets_of, set_work, is_key_here, is_shaped, are_columns_here, may_change, kept_key, as_row, against_granule, begins, other_live, with_granule, after_first, first_quantum, begin_with, begin, after_next, goes_on, read_key, insert_checked, insert_beside, insert_against, insert_row, lock_against, lock_granule, prepare_from, prepare, ended, commit_above, end_commit, by_kind, is_closing, unless_prepared, unless_other, answered}
 use Rattle.partition_core.specs.declared.lives.Live.{Live}
 
 -- as many openers as before

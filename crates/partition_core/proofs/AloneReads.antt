@@ -1,17 +1,15 @@
 -- The one reader of a partition reads its range.
-use Rattle.std.proofs.Common.{◌≡◌, ◌<◌, ℕ, List, [], ◌∷◌, length, filter, map, Option, Some, None, Bool, true, false, ◌&&◌, cond, refl, ap, sym, ◌∙◌, subst}
-use Rattle.std.specs.Prelude.{count_by, filter_map, option_map, find, not, ◌==◌}
-use Rattle.std.specs.List.{AllByRecursion, cons_option}
-use Rattle.sql_base.specs.Keys.{key_lt, key_le, key_eq}
-use Rattle.sql_base.specs.Locks.{first_conflict, conflicts, same_txn}
+use Rattle.std.proofs.Common.{◌≡◌, ℕ, List, [], ◌∷◌, length, filter, map, Option, Some, None, Bool, true, false, ◌&&◌, cond, refl, ap, sym, ◌∙◌, subst}
+use Rattle.std.specs.Prelude.{option_map}
+use Rattle.std.specs.List.{cons_option}
+use Rattle.sql_base.specs.Keys.{key_le}
+use Rattle.sql_base.specs.Locks.{first_conflict}
 use Rattle.sql_base.specs.Rows.{packed}
-use Rattle.sql_base.specs.declared.faults.Cause.{Cause}
 use Rattle.sql_base.specs.declared.key_ranges.Start.{Start}
 use Rattle.sql_base.specs.declared.key_ranges.Start.TheVariants.{At, After}
 use Rattle.sql_base.specs.declared.lock_names.Access.TheVariants.{Repeatable}
 use Rattle.sql_base.specs.declared.lock_names.Lock.{Lock}
 use Rattle.sql_base.specs.declared.lock_names.Mode.TheVariants.{S}
-use Rattle.sql_base.specs.declared.lock_names.TxnName.{TxnName}
 use Rattle.sql_base.specs.declared.values.Value.{Value}
 use Rattle.key_sequenced.specs.Cells.{Keyed, records}
 use Rattle.key_sequenced.specs.declared.Cell.{Cell}
@@ -19,20 +17,19 @@ use Rattle.subset_blocks.specs.Blocks.{find_block}
 use Rattle.subset_blocks.specs.declared.Block.{Block}
 use Rattle.subset_blocks.specs.declared.Numbered.{Numbered}
 use Rattle.quantum_core.specs.Quantum.{Handled, quantum}
-use Rattle.quantum_core.specs.Verdicts.{is_from, barrier}
+use Rattle.quantum_core.specs.Verdicts.{is_from}
 use Rattle.quantum_core.specs.declared.replies.QuantumReply.{QuantumReply}
 use Rattle.quantum_core.specs.declared.replies.QuantumReply.TheVariants as answers
 use Rattle.quantum_core.specs.declared.works.SetWork.{SetWork}
 use Rattle.quantum_core.proofs.KeyOrders.{key_eq-refl}
 use Rattle.quantum_core.proofs.OpenReads.{IsOpen, ShowsWindow, quantum-open}
 use Rattle.quantum_core.proofs.Windows.{in_window, window, rows_in}
-use Rattle.dp_messages.specs.declared.replies.Reply.{Reply}
-use Rattle.dp_messages.specs.declared.replies.Reply.TheVariants.{AfterEnd, BadShape, NoSubset, WrongKey}
+use Rattle.dp_messages.specs.declared.replies.Reply.TheVariants.{AfterEnd, BadShape, WrongKey}
 use Rattle.dp_messages.specs.declared.requests.Ask.TheVariants.{Continue}
-use Rattle.partition_core.specs.Alone.{Reader, Phase, Fresh, Partway, Whole, ReadBy, Suits, Shows, rows_between, granule_lock, own_locks, own_block, begin_ask}
+use Rattle.partition_core.specs.Alone.{Reader, Phase, Fresh, Partway, Whole, ReadBy, Suits, Shows, rows_between, granule_lock, own_block, begin_ask}
 use Rattle.partition_core.specs.Contents.{reading}
 use Rattle.partition_core.specs.State.{State, Opener, opener_of, with_live}
-use Rattle.partition_core.specs.Step.{Answered, answered, refused, unless_other, other_live, begin, begin_with, after_first, after_next, goes_on, is_shaped, are_columns_here}
+use Rattle.partition_core.specs.Step.{Answered, answered, refused, unless_other, other_live, begin_with, after_first, after_next, goes_on, is_shaped, are_columns_here}
 use Rattle.partition_core.proofs.AloneSteps.{Leaves, stands, not_ended, same_txn-itself, answered-own}
 use Rattle.partition_core.proofs.ReadQuanta.{quantum-read}
 

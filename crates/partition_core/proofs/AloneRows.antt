@@ -1,6 +1,6 @@
 -- The rows that the one reader of a partition gets.
 use Rattle.std.proofs.Common.{◌≡◌, ℕ, List, [], ◌∷◌, ◌++◌, true, refl, ap, sym, ◌∙◌, subst}
-use Rattle.std.specs.Prelude.{flat_map, filter_map, option_map}
+use Rattle.std.specs.Prelude.{flat_map, option_map}
 use Rattle.std.proofs.lemmas.List.{append-nil}
 use Rattle.std.proofs.lemmas.List.Elements.{filter_map-append}
 use Rattle.sql_base.specs.Keys.{key_le}
@@ -12,7 +12,7 @@ use Rattle.key_sequenced.specs.declared.Cell.{Cell}
 use Rattle.quantum_core.specs.Verdicts.{is_from}
 use Rattle.quantum_core.proofs.Windows.{window, window-split, rows_in, Ascends-from_rise}
 use Rattle.dp_messages.specs.declared.replies.Reply.{Reply}
-use Rattle.dp_messages.specs.declared.replies.Reply.TheVariants.{Ended, Redrive, Locked, Failed, Row, NoRow, Done, Floor, DuplicateKey, AfterEnd, AfterPrepare, StillLive, NotKnown, NotPrepared, StampLow, NoSubset, WrongKey, BadCode, BadShape, TooManySubsets}
+use Rattle.dp_messages.specs.declared.replies.Reply.TheVariants.{Ended, Redrive}
 use Rattle.partition_core.specs.Alone.{Reader, Phase, Fresh, Partway, Whole, Ready, Over, AsksOn, Shows, ReadOn, rows_between}
 use Rattle.partition_core.specs.State.{State}
 use Rattle.partition_core.specs.declared.entries.Entry.{Entry}

@@ -1,10 +1,10 @@
 -- A partition that one transaction alone reads: where it stands, and what a request leaves.
 use Rattle.std.proofs.Common.{◌≡◌, ◌<◌, ◌-◌, ℕ, List, [], ◌∷◌, length, replicate, Option, Some, None, ◌&&◌, cond, true, false, refl, ap, sym, ◌∙◌, subst, arith}
-use Rattle.std.specs.Prelude.{unwrap_or, slice_get, nat_le, ◌==◌, not, find, option_and_then}
+use Rattle.std.specs.Prelude.{nat_le, ◌==◌, not, find, option_and_then}
 use Rattle.std.specs.List.{list_any}
 use Rattle.std.proofs.lemmas.Bool.{eq-eqb}
 use Rattle.std.proofs.lemmas.Bool.Decides.{nat_tests}
-use Rattle.std.proofs.lemmas.List.{length-set, length-replicate, get_or-replicate}
+use Rattle.std.proofs.lemmas.List.{length-set, get_or-replicate}
 use Rattle.std.proofs.lemmas.Option.{unwrap_or-slice_get}
 use Rattle.sql_base.specs.Locks.{same_txn}
 use Rattle.sql_base.specs.Scripts.{Lies}
@@ -19,7 +19,7 @@ use Rattle.quantum_core.specs.declared.works.SetWork.{SetWork}
 use Rattle.dp_messages.specs.declared.replies.Reply.{Reply}
 use Rattle.dp_messages.specs.declared.replies.Reply.TheVariants.{AfterEnd}
 use Rattle.dp_messages.specs.declared.requests.Ask.{Ask}
-use Rattle.partition_core.specs.Alone.{Reader, Phase, Fresh, Partway, Whole, Ready, Over, ReadBy, own_locks, own_blocks, own_lives, high_in, ended_in, by_reader}
+use Rattle.partition_core.specs.Alone.{Reader, Phase, Fresh, ReadBy, own_locks, own_blocks, own_lives, high_in, ended_in, by_reader}
 use Rattle.partition_core.specs.State.{State, Opener, new_opener, opener_of, opening, floor_of}
 use Rattle.partition_core.specs.Step.{Answered, Stepped, answered, refused, other_live, unless_other, unless_prepared, noted, step}
 use Rattle.partition_core.specs.declared.lives.Live.{Live}

@@ -1,15 +1,13 @@
 -- A quantum that reads where no lock bars it and every cell holds a row.
-use Rattle.std.proofs.Common.{◌≡◌, ℕ, zero, suc, ◌+◌, ◌<◌, ◌≤◌, ◌⊎◌, inl, inr, List, [], ◌∷◌, ◌++◌, length, take, drop, Bool, true, false, ◌&&◌, cond, Option, Some, None, filter, map, min, refl, ap, sym, ◌∙◌, subst, arith, sum_by, length-take, length-drop}
-use Rattle.std.specs.Prelude.{count_by, filter_map, option_map, IsSome, IfSome, not}
+use Rattle.std.proofs.Common.{◌≡◌, ℕ, zero, suc, ◌+◌, ◌<◌, ◌≤◌, ◌⊎◌, inl, inr, List, [], ◌∷◌, ◌++◌, length, take, drop, Bool, true, false, ◌&&◌, cond, Option, Some, None, filter, map, min, refl, ap, sym, ◌∙◌, subst, arith, length-take, length-drop}
+use Rattle.std.specs.Prelude.{count_by, option_map, IsSome, IfSome, not}
 use Rattle.std.specs.List.{AllByRecursion, cons_option, drop-map}
 use Rattle.std.proofs.Math.Nat.{eq-or-lt_of_le}
 use Rattle.std.proofs.lemmas.Bool.{false≢true, le-leb}
 use Rattle.std.proofs.lemmas.List.{append-nil, length-map, take-append-drop, take-map}
 use Rattle.sql_base.specs.Keys.{key_lt, key_le}
 use Rattle.sql_base.specs.Rows.{packed}
-use Rattle.sql_base.specs.declared.faults.Cause.{Cause}
 use Rattle.sql_base.specs.declared.key_ranges.Start.{Start}
-use Rattle.sql_base.specs.declared.key_ranges.Start.TheVariants.{At, After}
 use Rattle.sql_base.specs.declared.lock_names.Lock.{Lock}
 use Rattle.sql_base.specs.declared.scripts.Limits.{Limits}
 use Rattle.sql_base.specs.declared.tables.TableDef.{TableDef}
@@ -17,7 +15,7 @@ use Rattle.sql_base.specs.declared.values.Value.{Value}
 use Rattle.key_sequenced.specs.Cells.{AreCells}
 use Rattle.key_sequenced.specs.declared.Cell.{Cell}
 use Rattle.subset_blocks.specs.declared.Block.{Block}
-use Rattle.quantum_core.specs.Quantum.{greatest, lets_on, may_handle, visits, rows_of, row_of, changes, cause_of, last_key, stopped, answer, reply_to, quantum}
+use Rattle.quantum_core.specs.Quantum.{greatest, may_handle, visits, rows_of, row_of, last_key, stopped, answer, reply_to, quantum}
 use Rattle.quantum_core.specs.Verdicts.{Judged, is_from, is_candidate, is_hidden, judged, verdict, barrier, on_row, unless_blocked}
 use Rattle.quantum_core.specs.declared.replies.QuantumReply.{QuantumReply}
 use Rattle.quantum_core.specs.declared.replies.QuantumReply.TheVariants.{Ended, Redrive, Locked, Failed}

@@ -1,5 +1,5 @@
 -- The cells from a start to an end that is included, of a file whose keys rise.
-use Rattle.std.proofs.Common.{◌≡◌, ℕ, zero, suc, ◌+◌, ◌<◌, ◌≤◌, List, [], ◌∷◌, ◌++◌, length, take, Bool, true, false, ◌&&◌, cond, Option, Some, None, filter, map, refl, ap, sym, ◌∙◌, subst, arith, sum_by}
+use Rattle.std.proofs.Common.{◌≡◌, ℕ, zero, suc, ◌+◌, List, [], ◌∷◌, ◌++◌, length, take, Bool, true, false, ◌&&◌, cond, Option, Some, None, filter, refl, ap, sym, ◌∙◌, subst, arith}
 use Rattle.std.specs.Prelude.{count_by, filter_map, option_map}
 use Rattle.std.specs.List.{AllByRecursion}
 use Rattle.std.proofs.lemmas.Bool.{false≢true}
@@ -11,7 +11,7 @@ use Rattle.sql_base.specs.declared.key_ranges.Start.TheVariants.{At, After}
 use Rattle.key_sequenced.specs.Cells.{AreCells}
 use Rattle.key_sequenced.specs.declared.Cell.{Cell}
 use Rattle.quantum_core.specs.Verdicts.{is_from}
-use Rattle.quantum_core.proofs.KeyOrders.{lt_from_not_le, not_lt_from_le, not_le_from_lt, le_from_lt, key_le-refl, key_le-trans, lt_le-trans, le_lt-trans, lt-trans}
+use Rattle.quantum_core.proofs.KeyOrders.{lt_from_not_le, not_lt_from_le, not_le_from_lt, le_from_lt, key_le-refl, key_le-trans, lt-trans}
 
 -- from the start to the high key
 abbrev pub in_window : Start → List ℕ → Cell → Bool
