@@ -7,4 +7,5 @@ pub mod Settled
 pub mod Seen
 pub mod Text
 pub mod ThinText
+pub mod Headline
 pub mod WholeScan

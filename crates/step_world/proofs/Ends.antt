@@ -15,12 +15,11 @@ use Rattle.requester_fs.specs.declared.places.Stage.TheVariants.{Finished}
 use Rattle.one_thread.specs.Answer.{answer_text}
 use Rattle.one_thread.specs.Text.{run_text}
 use Rattle.run_record.proofs.ThinLegal.{legal-whole}
+use Rattle.run_record.proofs.ThinReading.{only_session}
 use Rattle.run_record.proofs.ThinWhole.{tiles-thin, text-thin, is_text-thin}
-use Rattle.run_record.specs.Legal.{Legal}
+use Rattle.run_record.specs.Headline.{Headline}
 use Rattle.run_record.specs.Openings.{log_of}
-use Rattle.run_record.specs.Text.{IsText}
 use Rattle.run_record.specs.ThinText.{loaded_records, thin_shown}
-use Rattle.run_record.specs.Tiles.{FinishedTile}
 use Rattle.run_record.specs.WholeScan.{WholeScan, scan_opening}
 use Rattle.run_record.specs.declared.records.RunRecord.{RunRecord}
 use Rattle.step_world.specs.Running.{Running, Stands}
@@ -65,21 +64,19 @@ of_kept (Ok given) kept P h p = subst P (sym h) p
 of_kept (Err error) kept P h p = h
 
 -- so it is the record of a run of the script
-pub record EndOfRun (script : Script) (kept : RunRecord) : Type 0 where
-  pub legal : Legal script kept
-  pub tiles : FinishedTile script kept
-  pub in_line_is : in_line script 1 (log_of kept 1)
-  pub text : IsText script kept (answer_text script)
-  pub shown : run_text script.tables (thin_shown script kept) (loaded_records script) ≡ answer_text script
-
-pub end_of_run : (script : Script) (s : Working) (k : Kept) (journal : List Drawn) → Running script s k journal → s.next ≡ Ends → EndOfRun script (kept_of s k journal)
-end_of_run script s k journal run ends =
+pub headline : (script : Script) (s : Working) (k : Kept) (journal : List Drawn) → Running script s k journal → s.next ≡ Ends → Headline script (kept_of s k journal)
+headline script s k journal run ends =
     let whole = ends_whole script s k journal run ends in
     let kept = kept_of s k journal in
     record {
       legal = legal-whole script run.table kept run.run whole;
       tiles = tiles-thin script run.table kept run.run whole;
-      in_line_is = run.session.ends_where_whole.0 ends;
+      in_line_is = λ session lies. subst (λ n. in_line script n (log_of kept n)) (sym (only_session script run.run.thin session lies)) (run.session.ends_where_whole.0 ends);
       text = is_text-thin script run.table kept run.run whole run.suits.rise;
-      shown = text-thin script run.table kept run.run whole run.suits.rise;
     }
+
+-- and what is printed of it is what one thread prints
+pub printed : (script : Script) (s : Working) (k : Kept) (journal : List Drawn) → Running script s k journal → s.next ≡ Ends
+    → run_text script.tables (thin_shown script (kept_of s k journal)) (loaded_records script) ≡ answer_text script
+printed script s k journal run ends =
+    text-thin script run.table (kept_of s k journal) run.run (ends_whole script s k journal run ends) run.suits.rise

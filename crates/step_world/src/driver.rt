@@ -1,18 +1,11 @@
 //! The run of a script with one session and one partition.
-ghost use Rattle.std.specs.Prelude.{◌≡◌, ◌<◌, ◌++◌, ◌∷◌, [], IfOk, OnOk, length};
-ghost use Rattle.sql_base.specs.Scripts.{Lies};
+ghost use Rattle.std.specs.Prelude.{◌≡◌, ◌∷◌, [], IfOk};
 ghost use Rattle.one_thread.specs.Answer.{answer_text};
 ghost use Rattle.one_thread.specs.Text.{run_text};
-ghost use Rattle.requester_fs.specs.Follows.{in_line};
-ghost use Rattle.requester_fs.specs.Sessions.{Ends};
-ghost use Rattle.run_record.specs.Legal.{Legal};
-ghost use Rattle.run_record.specs.Openings.{log_of};
-ghost use Rattle.run_record.specs.Text.{IsText};
+ghost use Rattle.run_record.specs.Headline.{Headline};
 ghost use Rattle.run_record.specs.ThinText.{loaded_records, thin_shown};
-ghost use Rattle.run_record.specs.Tiles.{FinishedTile};
 ghost use Rattle.run_record.specs.WholeScan.{IsRun};
-ghost use Rattle.step_world.specs.Running.{Opens, Running, actions_left};
-ghost use Rattle.sql_base.specs.declared.scripts.Script.{Script as AnyScript};
+ghost use Rattle.step_world.specs.Running.{Opens};
 
 use crate::actions::step;
 use commit_journal::Drawn;
@@ -22,14 +15,12 @@ use run_record::RunRecord;
 use sql_base::{List, NoMemory, Script};
 use std::alloc::Global;
 
-/// Runs the script's one session against its one partition, and gives what they kept.
+/// Runs the script's one session against its one partition, and gives what they kept. It always comes to an end:
+/// each request has a reply that fits it, and fewer actions are left after each.
 pub fn drive(alloc: Global, script: &Script) -> Result<RunRecord, NoMemory>
     requires { IsRun script.now }
-    ensures legal { IfOk result (Legal script.now) }
-    ensures tiles { IfOk result (FinishedTile script.now) }
-    ensures in_line { IfOk result (λ kept. in_line script.now 1 (log_of kept 1)) }
-    ensures text { IfOk result (λ kept. IsText script.now kept (answer_text script.now)) }
-    ensures shown { IfOk result (λ kept. run_text script.now.tables (thin_shown script.now kept) (loaded_records script.now) ≡ answer_text script.now) }
+    ensures headline { IfOk result (Headline script.now) }
+    ensures printed { IfOk result (λ kept. run_text script.now.tables (thin_shown script.now kept) (loaded_records script.now) ≡ answer_text script.now) }
 {
     let mut partition = open(alloc, script)?;
     let mut session = Session::new(alloc, script, 1)?;

@@ -1,14 +1,10 @@
 -- The run goes from its start to a whole scan, whose record is that of a run of the script.
-use Rattle.std.proofs.Common.{◌≡◌, ap, sym, ◌∙◌, subst, IfOk, Ok}
+use Rattle.std.proofs.Common.{◌≡◌, ap, Ok}
 use Rattle.one_thread.specs.Answer.{answer_text}
 use Rattle.one_thread.specs.Text.{run_text}
-use Rattle.requester_fs.specs.Follows.{in_line}
-use Rattle.run_record.specs.Legal.{Legal}
-use Rattle.run_record.specs.Openings.{log_of}
-use Rattle.run_record.specs.Text.{IsText}
+use Rattle.run_record.specs.Headline.{Headline}
 use Rattle.run_record.specs.ThinText.{loaded_records, thin_shown}
-use Rattle.run_record.specs.Tiles.{FinishedTile}
-use Rattle.step_world.proofs.Ends.{kept_of, end_of_run, of_kept}
+use Rattle.step_world.proofs.Ends.{headline, kept_of, of_kept, printed}
 use Rattle.step_world.proofs.Starts.{starts}
 use Rattle.step_world.proofs.driver.drive.Goals as goal
 
@@ -20,33 +16,15 @@ loop-journal-init c =
 pub loop-journal-preserved : goal.loop-journal-preserved
 loop-journal-preserved c = c.in_ok-step.ensures.runs c.args.script.now c.loop-journal.invariant
 
-pub returns-clause-legal : goal.returns-clause-legal
-returns-clause-legal c =
-    let end = end_of_run c.args.script.now c.step.new.session c.step.new.partition c.step.new.journal
+pub returns-clause-headline : goal.returns-clause-headline
+returns-clause-headline c =
+    let holds = headline c.args.script.now c.step.new.session c.step.new.partition c.step.new.journal
     (c.in_ok-step.ensures.runs c.args.script.now c.loop-journal.invariant) (c.in_ok-step.ensures.ends (ap Ok c.if-branch.false)) in
-    of_kept c.record.result (kept_of c.step.new.session c.step.new.partition c.step.new.journal) (Legal c.args.script.now) c.record.ensures end.legal
+    of_kept c.record.result (kept_of c.step.new.session c.step.new.partition c.step.new.journal) (Headline c.args.script.now) c.record.ensures holds
 
-pub returns-clause-tiles : goal.returns-clause-tiles
-returns-clause-tiles c =
-    let end = end_of_run c.args.script.now c.step.new.session c.step.new.partition c.step.new.journal
-    (c.in_ok-step.ensures.runs c.args.script.now c.loop-journal.invariant) (c.in_ok-step.ensures.ends (ap Ok c.if-branch.false)) in
-    of_kept c.record.result (kept_of c.step.new.session c.step.new.partition c.step.new.journal) (FinishedTile c.args.script.now) c.record.ensures end.tiles
-
-pub returns-clause-in_line : goal.returns-clause-in_line
-returns-clause-in_line c =
-    let end = end_of_run c.args.script.now c.step.new.session c.step.new.partition c.step.new.journal
-    (c.in_ok-step.ensures.runs c.args.script.now c.loop-journal.invariant) (c.in_ok-step.ensures.ends (ap Ok c.if-branch.false)) in
-    of_kept c.record.result (kept_of c.step.new.session c.step.new.partition c.step.new.journal) (λ kept. in_line c.args.script.now 1 (log_of kept 1)) c.record.ensures end.in_line_is
-
-pub returns-clause-text : goal.returns-clause-text
-returns-clause-text c =
-    let end = end_of_run c.args.script.now c.step.new.session c.step.new.partition c.step.new.journal
-    (c.in_ok-step.ensures.runs c.args.script.now c.loop-journal.invariant) (c.in_ok-step.ensures.ends (ap Ok c.if-branch.false)) in
-    of_kept c.record.result (kept_of c.step.new.session c.step.new.partition c.step.new.journal) (λ kept. IsText c.args.script.now kept (answer_text c.args.script.now)) c.record.ensures end.text
-
-pub returns-clause-shown : goal.returns-clause-shown
-returns-clause-shown c =
-    let end = end_of_run c.args.script.now c.step.new.session c.step.new.partition c.step.new.journal
+pub returns-clause-printed : goal.returns-clause-printed
+returns-clause-printed c =
+    let holds = printed c.args.script.now c.step.new.session c.step.new.partition c.step.new.journal
     (c.in_ok-step.ensures.runs c.args.script.now c.loop-journal.invariant) (c.in_ok-step.ensures.ends (ap Ok c.if-branch.false)) in
     of_kept c.record.result (kept_of c.step.new.session c.step.new.partition c.step.new.journal)
-    (λ kept. run_text c.args.script.now.tables (thin_shown c.args.script.now kept) (loaded_records c.args.script.now) ≡ answer_text c.args.script.now) c.record.ensures end.shown
+    (λ kept. run_text c.args.script.now.tables (thin_shown c.args.script.now kept) (loaded_records c.args.script.now) ≡ answer_text c.args.script.now) c.record.ensures holds
