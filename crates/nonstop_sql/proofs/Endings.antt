@@ -14,7 +14,9 @@ use Rattle.statement_reader.specs.declared.faults.ScriptFault.{ScriptFault}
 use Rattle.sql_base.specs.declared.scripts.Script.{Script}
 use Rattle.run_record.specs.declared.records.RunRecord.{RunRecord}
 use Rattle.nonstop_sql.specs.declared.outcome.Outcome.{Outcome}
-use Rattle.nonstop_sql.specs.Steps.{Runs, RunsBytes, EndsOn, StepsEnds, SpellsNone, refusal_of, text_of}
+use Rattle.one_thread.specs.Answer.{answer_text}
+use Rattle.run_record.specs.Headline.{Headline}
+use Rattle.nonstop_sql.specs.Steps.{IsDone, IsCut, Runs, RunsBytes, Spelled, EndsOn, WasRead, StepsEnds, SpellsNone, refusal_of}
 
 abbrev pub bare : ℕ → Outcome
 bare status = record { status = status; kept = None; fault = None }
@@ -34,32 +36,32 @@ runs-short script taken taken' faults faults' keeps = record {
   kept = (λ h. absurd (omega arith), λ h. absurd (cc));
   failed = λ h. absurd (omega arith);
   unwritten = λ h. keeps;
-  written = λ h. absurd (omega arith);
-  front = λ h. absurd (omega arith);
+  done = λ h. absurd (omega arith);
+  cut = λ h. absurd (omega arith);
 }
 
-pub runs-done : (script : Script) (kept : RunRecord) (taken taken' : Option (List ℕ)) (faults faults' : ℕ) → Appends taken taken' (text_of script kept)
+pub runs-done : (script : Script) (kept : RunRecord) (taken taken' : Option (List ℕ)) (faults faults' : ℕ) → Headline script kept → Appends taken taken' (answer_text script)
     → Runs script taken taken' faults faults' (record { status = 0; kept = Some kept; fault = None })
-runs-done script kept taken taken' faults faults' appends = record {
+runs-done script kept taken taken' faults faults' holds appends = record {
   status = inl refl;
   fault = refl;
   kept = (λ h. refl, λ h. refl);
   failed = λ h. absurd (omega arith);
   unwritten = λ h. absurd (omega arith);
-  written = λ h. appends;
-  front = λ h. absurd (omega arith);
+  done = λ h. record { headline = holds; written = appends };
+  cut = λ h. absurd (omega arith);
 }
 
-pub runs-failed : (script : Script) (kept : RunRecord) (count : ℕ) (taken taken' : Option (List ℕ)) (faults faults' : ℕ) → Rose faults faults'
-    → Appends taken taken' (take count (text_of script kept)) → Runs script taken taken' faults faults' (bare 4)
-runs-failed script kept count taken taken' faults faults' rose appends = record {
+pub runs-failed : (script : Script) (count : ℕ) (taken taken' : Option (List ℕ)) (faults faults' : ℕ) → Rose faults faults'
+    → Appends taken taken' (take count (answer_text script)) → Runs script taken taken' faults faults' (bare 4)
+runs-failed script count taken taken' faults faults' rose appends = record {
   status = inr (inl refl);
   fault = refl;
   kept = (λ h. absurd (omega arith), λ h. absurd (cc));
   failed = λ h. rose;
   unwritten = λ h. absurd (omega arith);
-  written = λ h. absurd (omega arith);
-  front = λ h. (kept, count, appends);
+  done = λ h. absurd (omega arith);
+  cut = λ h. (count, appends);
 }
 
 not_one : (o : Outcome) → (o.status ≡ 0) ⊎ ((o.status ≡ 4) ⊎ (o.status ≡ 5)) → o.status ≡ 1 → ⊥
@@ -74,18 +76,17 @@ is_five o (inr (inr e)) zero four = e
 
 -- a script that the bytes spell was run
 pub bytes-ran : (bytes : List ℕ) (script : Script) (taken taken' : Option (List ℕ)) (faults faults' : ℕ) (o : Outcome) → Spells bytes script
-    → ((s : Script) → Spells bytes s → script ≡ s) → Runs script taken taken' faults faults' o → RunsBytes bytes taken taken' faults faults' o
-bytes-ran bytes script taken taken' faults faults' o found one runs = record {
+    → Runs script taken taken' faults faults' o → RunsBytes bytes taken taken' faults faults' o
+bytes-ran bytes script taken taken' faults faults' o found runs = record {
   status = inr runs.status;
   fault = (λ h. absurd (not_one o runs.status h), λ h. absurd (none_there runs.fault h));
   kept = runs.kept;
   refused = λ h. absurd (not_one o runs.status h);
   refuses = λ none. absurd (none script found);
-  spelled = λ h. (script, found);
   failed = runs.failed;
   unwritten = λ zero four. runs.unwritten (is_five o runs.status zero four);
-  written = λ h s spelled. subst (λ t. IfSome o.kept (λ kept. Appends taken taken' (text_of t kept))) (one s spelled) (runs.written h);
-  front = λ h s spelled. subst (λ t. (kept : RunRecord) × (count : ℕ) × Appends taken taken' (take count (text_of t kept))) (one s spelled) (runs.front h);
+  done = λ h. (script, found, runs.done h);
+  cut = λ h. (script, found, runs.cut h);
 }
   where
     none_there : {A : Type 0} {fault : Option A} → fault ≡ None → IsSome fault → ⊥
@@ -100,11 +101,10 @@ bytes-refused bytes fault taken taken' faults faults' none is keeps = record {
   kept = (λ h. absurd (omega arith), λ h. absurd (cc));
   refused = λ h. (none, is);
   refuses = λ h. inl refl;
-  spelled = λ h. absurd (omega arith);
   failed = λ h. absurd (omega arith);
   unwritten = λ zero four. keeps;
-  written = λ h. absurd (omega arith);
-  front = λ h. absurd (omega arith);
+  done = λ h. absurd (omega arith);
+  cut = λ h. absurd (omega arith);
 }
 
 -- memory was short while they were read or run
@@ -115,11 +115,10 @@ bytes-short bytes taken taken' faults faults' keeps = record {
   kept = (λ h. absurd (omega arith), λ h. absurd (cc));
   refused = λ h. absurd (omega arith);
   refuses = λ h. inr refl;
-  spelled = λ h. absurd (omega arith);
   failed = λ h. absurd (omega arith);
   unwritten = λ zero four. keeps;
-  written = λ h. absurd (omega arith);
-  front = λ h. absurd (omega arith);
+  done = λ h. absurd (omega arith);
+  cut = λ h. absurd (omega arith);
 }
 
 -- the most bytes that a script has, and one more
@@ -160,13 +159,11 @@ if_fault bytes (Some fault) h = fault-whole bytes fault h
 
 -- the front of what a source told was read and run
 on_whole : (bytes : List ℕ) (left' taken taken' : Option (List ℕ)) (faults faults' : ℕ) (o : Outcome) → RunsBytes (front_of bytes) taken taken' faults faults' o
-    → left' ≡ Some (drop 4194305 bytes) → EndsOn bytes left' taken taken' o
+    → left' ≡ Some (drop 4194305 bytes) → EndsOn bytes left' o
 on_whole bytes left' taken taken' faults faults' o runs rest = record {
   refused = λ h. ((λ s spelled. (runs.refused h).0 s (spells-front bytes s spelled)), if_fault bytes o.fault (runs.refused h).1);
   refuses = λ none. refused_or_short (runs.refuses (λ s spelled. none s (spells-whole bytes s spelled)));
-  read_whole = λ h. let within : length bytes ≤ 4194304 = front_within bytes (runs.spelled h).1.within in rest ∙ ap Some (drop_all 4194305 bytes (omega arith));
-  written = λ h s spelled. runs.written h s (spells-front bytes s spelled);
-  front = λ h s spelled. runs.front h s (spells-front bytes s spelled);
+  read_whole = λ h. let within : length bytes ≤ 4194304 = front_within bytes (runs.done h).1.within in rest ∙ ap Some (drop_all 4194305 bytes (omega arith));
 }
   where
     refused_or_short : (o.status ≡ 1) ⊎ (o.status ≡ 5) → (o.status ≡ 1) ⊎ ((o.status ≡ 3) ⊎ (o.status ≡ 5))
@@ -175,7 +172,7 @@ on_whole bytes left' taken taken' faults faults' o runs rest = record {
 
 -- what the source had left, if it told it
 on_left : (left left' taken taken' : Option (List ℕ)) (bytes : List ℕ) (faults faults' : ℕ) (o : Outcome) → RunsBytes bytes taken taken' faults faults' o
-    → IfSome left (λ l. bytes ≡ front_of l) → IfSome left (λ l. left' ≡ Some (drop 4194305 l)) → IfSome left (λ l. EndsOn l left' taken taken' o)
+    → IfSome left (λ l. bytes ≡ front_of l) → IfSome left (λ l. left' ≡ Some (drop 4194305 l)) → IfSome left (λ l. EndsOn l left' o)
 on_left None left' taken taken' bytes faults faults' o runs front rest = tt
 on_left (Some l) left' taken taken' bytes faults faults' o runs front rest =
     on_whole l left' taken taken' faults faults' o (subst (λ b. RunsBytes b taken taken' faults faults' o) front runs) rest
@@ -185,6 +182,13 @@ status_of_bytes o (inl e) = (omega (arith, e), (λ h. omega (arith, e, h)), (λ 
 status_of_bytes o (inr (inl e)) = (omega (arith, e), (λ h. omega (arith, e, h)), (λ h. omega (arith, e, h)))
 status_of_bytes o (inr (inr (inl e))) = (omega (arith, e), (λ h. omega (arith, e, h)), (λ h. omega (arith, e, h)))
 status_of_bytes o (inr (inr (inr e))) = (omega (arith, e), (λ h. omega (arith, e, h)), (λ h. omega (arith, e, h)))
+
+-- the script that was read is the one that the source's bytes spell
+was_read : (left : Option (List ℕ)) (bytes : List ℕ) (P : Script → Type 0) → IfSome left (λ l. bytes ≡ front_of l) → Spelled bytes P → WasRead left P
+was_read None bytes P front spelled = (bytes, tt, spelled)
+was_read (Some l) bytes P front spelled =
+    let within : length (front_of l) ≤ 4194304 = subst (λ b. length b ≤ 4194304) front spelled.1.within in
+    (bytes, sym (front ∙ whole l (front_within l within)), spelled)
 
 -- the bytes were read, and then run
 pub steps-ran : (left left' taken taken' : Option (List ℕ)) (bytes : List ℕ) (read_faults read_faults' write_faults write_faults' : ℕ) (o : Outcome)
@@ -199,6 +203,8 @@ steps-ran left left' taken taken' bytes read_faults read_faults' write_faults wr
   write_failed = runs.failed;
   unwritten = runs.unwritten;
   told = on_left left left' taken taken' bytes write_faults write_faults' o runs front rest;
+  done = λ h. was_read left bytes (IsDone taken taken' o) front (runs.done h);
+  cut = λ h. was_read left bytes (IsCut taken taken') front (runs.cut h);
 }
 
 -- a read failed
@@ -213,16 +219,16 @@ steps-unread left left' taken taken' read_faults read_faults' write_faults write
   write_failed = λ h. absurd (omega arith);
   unwritten = λ zero four. keeps;
   told = on_told left;
+  done = λ h. absurd (omega arith);
+  cut = λ h. absurd (omega arith);
 }
   where
-    on_told : (left : Option (List ℕ)) → IfSome left (λ l. EndsOn l left' taken taken' (bare 3))
+    on_told : (left : Option (List ℕ)) → IfSome left (λ l. EndsOn l left' (bare 3))
     on_told None = tt
     on_told (Some l) = record {
       refused = λ h. absurd (omega arith);
       refuses = λ none. inr (inl refl);
       read_whole = λ h. absurd (omega arith);
-      written = λ h. absurd (omega arith);
-      front = λ h. absurd (omega arith);
     }
 
 -- memory was short while the source was read
@@ -237,16 +243,16 @@ steps-short left left' taken taken' read_faults read_faults' write_faults write_
   write_failed = λ h. absurd (omega arith);
   unwritten = λ zero four. keeps;
   told = on_told left;
+  done = λ h. absurd (omega arith);
+  cut = λ h. absurd (omega arith);
 }
   where
-    on_told : (left : Option (List ℕ)) → IfSome left (λ l. EndsOn l left' taken taken' (bare 5))
+    on_told : (left : Option (List ℕ)) → IfSome left (λ l. EndsOn l left' (bare 5))
     on_told None = tt
     on_told (Some l) = record {
       refused = λ h. absurd (omega arith);
       refuses = λ none. inr (inr refl);
       read_whole = λ h. absurd (omega arith);
-      written = λ h. absurd (omega arith);
-      front = λ h. absurd (omega arith);
     }
 
 -- the reader gave no script

@@ -2,7 +2,6 @@
 #![tactic(auto)]
 
 mod commands;
-mod driver;
 mod input;
 mod outcome;
 mod output;

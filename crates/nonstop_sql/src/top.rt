@@ -1,12 +1,13 @@
 //! The top call: from the words, the source and the wires to the sink.
 ghost use Rattle.std.specs.Prelude.{◌≡◌, ◌≤◌, ◌<◌, ◌↔◌, ◌⊎◌, vec_len, IfOk};
 ghost use Rattle.std.specs.Io.KnownBytes.{Keeps};
+ghost use Rattle.one_thread.specs.Answer.{answer_text};
+ghost use Rattle.run_record.specs.Headline.{Headline};
 ghost use Rattle.statement_reader.specs.Thin.{IsThin};
 ghost use Rattle.nonstop_sql.specs.Commands.{IsSteps};
-ghost use Rattle.nonstop_sql.specs.Steps.{Runs, RunsBytes, StepsEnds, refusal_of, text_of};
+ghost use Rattle.nonstop_sql.specs.Steps.{Runs, RunsBytes, StepsEnds, refusal_of};
 
 use crate::commands::{Command, command_of};
-use crate::driver::{Stop, drive};
 use crate::input::{ReadError, read_to_limit};
 use crate::outcome::Outcome;
 use crate::output::write_all;
@@ -14,6 +15,7 @@ use outside::{Collector, Gate, Sink, Source, Wire};
 use run_record::{RunRecord, text};
 use sql_base::{NoMemory, Script};
 use statement_reader::{ReadFault, read_script};
+use step_world::drive;
 use std::alloc::Global;
 
 /// How many wires a run is handed, one for each session that a script may have.
@@ -114,9 +116,10 @@ fn run_script<K: Sink>(alloc: Global, script: &Script, sink: &mut K) -> Outcome
 }
 
 /// What a run of the script kept, and its text.
-fn kept_and_text(alloc: Global, script: &Script) -> Result<(RunRecord, Vec<u8>), Stop>
+fn kept_and_text(alloc: Global, script: &Script) -> Result<(RunRecord, Vec<u8>), NoMemory>
     requires { IsThin script.now }
-    ensures { IfOk result (λ r. r.1.items ≡ text_of script.now r.0) }
+    ensures headline { IfOk result (λ r. Headline script.now r.0) }
+    ensures text { IfOk result (λ r. r.1.items ≡ answer_text script.now) }
 {
     let kept = drive(alloc, script)?;
     let output = text(alloc, script, &kept)?;
