@@ -1,6 +1,6 @@
 -- Statements and transactions in one thread.
 use Rattle.std.specs.Prelude.{ℕ, ◌+◌, List, [], ◌∷◌, ◌++◌, length, map, filter, filter_map, find, count_by, flat_map, slice_get, slice_set, Option, Some, None, option_map, unwrap_or, Bool, true, false, not, ◌&&◌, ◌==◌, Result, Ok, Err, if◌then◌else◌}
-use Rattle.std.specs.List.{list_any}
+use Rattle.std.specs.List.{list_any, range_with_len}
 use Rattle.sql_base.specs.Keys.{key_lt, key_eq}
 use Rattle.sql_base.specs.Rows.{chosen, kinds, key_of, packed}
 use Rattle.sql_base.specs.Val.{Outcome, filter_val, IsTruth}
@@ -14,6 +14,7 @@ use Rattle.range_finder.specs.Range.{range, is_in}
 use Rattle.sql_base.specs.declared.expressions.Expr.{Expr}
 use Rattle.sql_base.specs.declared.faults.EvalFault.{EvalFault}
 use Rattle.sql_base.specs.declared.faults.Fault.{Fault}
+use Rattle.sql_base.specs.declared.scripts.Load.{Load}
 use Rattle.sql_base.specs.declared.scripts.Script.{Script}
 use Rattle.sql_base.specs.declared.scripts.Work.{Work}
 use Rattle.sql_base.specs.declared.statements.Assign.{Assign}
@@ -158,10 +159,10 @@ abbrev pub world_after : List Work → World → World
 world_after [] w = w
 world_after (work ∷ works) w = world_after works (run_work w work).world
 
+-- the LOAD rows of a table
+abbrev pub load_rows : List Load → ℕ → Records
+load_rows loads table = flat_map (λ load. if load.table == table then load.rows else []) loads
+
 -- the world that the LOAD rows make
 abbrev pub loaded : Script → World
-loaded script = record { tables = script.tables; records = records_from 0 script.tables }
-  where
-    records_from : ℕ → List TableDef → List Records
-    records_from n [] = []
-    records_from n (table ∷ tables) = flat_map (λ load. if load.table == n then load.rows else []) script.loads ∷ records_from (n + 1) tables
+loaded script = record { tables = script.tables; records = map (load_rows script.loads) (range_with_len 0 (length script.tables)) }

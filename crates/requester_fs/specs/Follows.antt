@@ -67,6 +67,10 @@ IsInLine r ordinal statement entries end = InLineBy r ordinal (plan_of r stateme
 abbrev pub projection : List LogEntry → Sent → List LogEntry
 projection entries sent = filter (is_for sent.part) entries
 
+-- each entry was asked of one of these partitions
+abbrev pub AreTheirs : List Sent → List LogEntry → Type 0
+AreTheirs sents entries = AllByRecursion (λ e. list_any (λ sent. is_for sent.part e) sents ≡ true) entries
+
 -- each list is one that was begun: some entries of it at least, and it can go on
 abbrev pub AreBegun : (Sent → List LogEntry → Option Abort → Type 0) → List Sent → List (List LogEntry) → Type 0
 AreBegun R (sent ∷ sents) (list ∷ lists) = (list ≢ []) × ((more : List LogEntry) × (end : Option Abort) × R sent (list ++ more) end) × AreBegun R sents lists
@@ -84,7 +88,7 @@ Together R (sent ∷ sents) [] end = ⊥
 -- the part of a statement in all its partitions at once: its lists interleaved, each begun first, in rising partitions
 pub record AreWide (r : Requester) (ordinal : ℕ) (sents : List Sent) (entries : List LogEntry) (end : Option Abort) : Type 0 where
   pub several : 2 ≤ length sents
-  pub theirs : AllByRecursion (λ e. list_any (λ sent. is_for sent.part e) sents ≡ true) entries
+  pub theirs : AreTheirs sents entries
   pub begun : take (length sents) entries ≡ flat_map (λ sent. take 1 (projection entries sent)) sents
   pub lists : Together (IsList r ordinal) sents (map (projection entries) sents) end
 

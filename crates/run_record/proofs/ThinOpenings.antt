@@ -13,10 +13,9 @@ use Rattle.sql_base.specs.declared.tables.TableDef.{TableDef}
 use Rattle.sql_base.specs.declared.values.Value.{Value}
 use Rattle.partition_map.specs.Map.{part_of}
 use Rattle.partition_core.specs.State.{opening}
-use Rattle.one_thread.specs.One.{loaded}
+use Rattle.one_thread.specs.One.{loaded, load_rows}
 use Rattle.requester_fs.specs.Thin.{IsThin, IsThinTable}
 use Rattle.run_record.specs.Openings.{openings, openings_from, rows_in_part}
-use Rattle.run_record.specs.ThinText.{load_rows, loaded_records}
 use Rattle.run_record.specs.WholeScan.{IsRun, scanned_rows, scan_opening}
 
 -- one table has place 0 alone
@@ -62,13 +61,6 @@ scanned_records script table run one =
 pub loads_thin : (script : Script) (table : TableDef) → IsRun script → script.tables ≡ table ∷ [] → (loaded script).records ≡ scanned_rows script ∷ []
 unfolding first_rows
 loads_thin script table run one =
-    let rows = load_rows-one table script.loads (subst (λ tables. AllByRecursion (IsLoad tables) script.loads) one run.is_script.loads) run.is_script.loads_differ in
-    rw one (ap (λ (all : List (List Value)). all ∷ []) rows)
-
--- and what is kept as its records
-pub loaded_records-thin : (script : Script) (table : TableDef) → IsRun script → script.tables ≡ table ∷ [] → loaded_records script ≡ scanned_rows script ∷ []
-unfolding first_rows
-loaded_records-thin script table run one =
     let rows = load_rows-one table script.loads (subst (λ tables. AllByRecursion (IsLoad tables) script.loads) one run.is_script.loads) run.is_script.loads_differ in
     rw one (ap (λ (all : List (List Value)). all ∷ []) rows)
 

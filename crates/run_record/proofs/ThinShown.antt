@@ -41,7 +41,7 @@ use Rattle.run_record.specs.Openings.{openings}
 use Rattle.run_record.specs.Serial.{entry_rows, final_records, part_rows}
 use Rattle.run_record.specs.Base.{by_part, by_table}
 use Rattle.run_record.specs.Text.{IsText, ShowSessions, shown_of}
-use Rattle.run_record.specs.ThinText.{attempt_shown, attempts_shown, entries_of, first_kinds, last_ordinal, loaded_records, outcome_after, thin_shown}
+use Rattle.run_record.specs.ThinText.{attempt_shown, attempts_shown, entries_of, first_kinds, last_ordinal, outcome_after, thin_shown}
 use Rattle.run_record.specs.Tiles.{reply_rows, sents_of}
 use Rattle.run_record.specs.WholeScan.{IsRun, WholeScan, asked, drew_first, scan_opening, scan_reader, scanned_rows, whole_history, whole_log}
 use Rattle.run_record.specs.declared.records.RunRecord.{RunRecord}
@@ -160,7 +160,7 @@ module _ (script : Script) (table : TableDef) (kept : RunRecord) (run : IsRun sc
 
 module _ (script : Script) (table : TableDef) (kept : RunRecord) (run : IsRun script) (w : WholeScan script table kept)
     (shown : ShowsAll script table w.scan)
-    (loads : (loaded script).records ≡ scanned_rows script ∷ []) (load_rows : loaded_records script ≡ scanned_rows script ∷ []) where
+    (loads : (loaded script).records ≡ scanned_rows script ∷ []) where
   -- the world that the LOAD rows make
   first_world : loaded script ≡ one_table table (scanned_rows script)
   first_world = ap (λ (tables : List TableDef). world_of tables (loaded script).records) w.tables ∙ ap (world_of (table ∷ [])) loads
@@ -181,10 +181,10 @@ module _ (script : Script) (table : TableDef) (kept : RunRecord) (run : IsRun sc
       ∙ ap (λ (world : World). (world_behind ((scan ∷ []) ∷ []) world).records) first_world ∙ left_alone table (thin_table script table kept run w) (scanned_rows script)
 
   -- the text of a thin record is that of one thread
-  pub text-whole : run_text script.tables (thin_shown script kept) (loaded_records script) ≡ answer_text script
+  pub text-whole : run_text script.tables (thin_shown script kept) (loaded script).records ≡ answer_text script
   text-whole =
-      ap (λ (all : List Shown). run_text script.tables all (loaded_records script)) (shown_of_log script table kept run w shown ∙ sym shown_by_one)
-      ∙ ap (run_text script.tables (sessions_shown 1 1 script.sessions (loaded script))) (load_rows ∙ sym left_by_one)
+      ap (λ (all : List Shown). run_text script.tables all (loaded script).records) (shown_of_log script table kept run w shown ∙ sym shown_by_one)
+      ∙ ap (run_text script.tables (sessions_shown 1 1 script.sessions (loaded script))) (loads ∙ sym left_by_one)
 
   module _ (reads : InLineReads script (whole_log w.scan w.prepare w.commit)) (one : OneReading script w.scan w.prepare w.commit) (opens : openings script ≡ scan_opening script table ∷ []) where
     -- the records at the end are those of the beginning

@@ -6,7 +6,8 @@ use Rattle.sql_base.specs.declared.key_ranges.Start.TheVariants.{At}
 use Rattle.sql_base.specs.declared.scripts.Script.{Script}
 use Rattle.sql_base.specs.declared.tables.TableDef.{TableDef}
 use Rattle.partition_core.specs.Alone.{Fresh}
-use Rattle.requester_fs.specs.Follows.{Attempt, Reads, IsPart, requester, works_of}
+use Rattle.partition_core.specs.declared.entries.Entry.{Entry}
+use Rattle.requester_fs.specs.Follows.{AreTheirs, Attempt, Reads, IsPart, requester, works_of}
 use Rattle.requester_fs.proofs.ThinPlans.{select, first_sent, thin-plan}
 use Rattle.run_record.specs.Openings.{openings, log_of}
 use Rattle.run_record.specs.Tiles.{FinishedTile, PieceTiles, SentTiles, Tiles, TilesOn}
@@ -22,6 +23,11 @@ only_one x y xs is c = at_front c.0 (subst (λ l. c.0 < length l) is c.1) (subst
     at_front : (k : ℕ) → k < length (x ∷ []) → slice_index_or (x ∷ []) k y ≡ y → y ≡ x
     at_front zero h e = sym e
     at_front (suc k) h e = absurd (omega arith)
+
+-- all entries were asked of the one partition
+all_theirs : (es : List Entry) → AreTheirs (first_sent ∷ []) (map asked es)
+all_theirs [] = tt
+all_theirs (e ∷ es) = (refl, all_theirs es)
 
 -- and stands at the place 0
 only_there : {A : Type 0} (x y : A) (xs : List A) (place : ℕ) → xs ≡ x ∷ [] → slice_get xs place ≡ Some y → (place ≡ 0) × (y ≡ x)
@@ -53,7 +59,7 @@ module _ (script : Script) (table : TableDef) (kept : RunRecord) (run : IsRun sc
       let there : slice_get script.tables 0 ≡ Some table = rw w.tables refl in
       let projected = subst (λ entries. PieceTiles script kept 1 table select scan_reader.range entries) (sym (all_for w.scan)) piece_tiles in
       let sent : SentTiles script kept 1 table select (map asked w.scan) first_sent = (scan_reader.range, refl, projected) in
-      (table, there, subst (λ p. TilesOn script kept 1 table select p (map asked w.scan)) (sym plan) (sent, tt))
+      (table, there, subst (λ p. TilesOn script kept 1 table select p (map asked w.scan)) (sym plan) (all_theirs w.scan, (sent, tt)))
 
   -- the one finished statement tiles its range
   pub tiles-whole : FinishedTile script kept

@@ -8,16 +8,17 @@ use Rattle.partition_core.proofs.AloneRows.{rows_shown}
 use Rattle.partition_core.specs.Alone.{Fresh}
 use Rattle.partition_core.specs.declared.entries.Entry.{Entry}
 use Rattle.one_thread.specs.Answer.{answer_text}
+use Rattle.one_thread.specs.One.{loaded}
 use Rattle.one_thread.specs.Text.{run_text}
 use Rattle.requester_fs.specs.Follows.{requester}
 use Rattle.requester_fs.specs.Thin.{scan}
 use Rattle.requester_fs.proofs.Readings.{AreAsked, only_reading, reads-in_line}
 use Rattle.run_record.specs.Text.{IsText}
-use Rattle.run_record.specs.ThinText.{loaded_records, thin_shown}
+use Rattle.run_record.specs.ThinText.{thin_shown}
 use Rattle.run_record.specs.Tiles.{FinishedTile}
 use Rattle.run_record.specs.WholeScan.{IsRun, WholeScan, asked, first_attempt, scan_opening, scan_reader, whole_log}
 use Rattle.run_record.specs.declared.records.RunRecord.{RunRecord}
-use Rattle.run_record.proofs.ThinOpenings.{loaded_records-thin, loads_thin, thin_openings}
+use Rattle.run_record.proofs.ThinOpenings.{loads_thin, thin_openings}
 use Rattle.run_record.proofs.ThinReading.{OneReading}
 use Rattle.run_record.proofs.ThinShown.{ShowsAll, is_text-whole, rows_agree, text-whole}
 use Rattle.run_record.proofs.ThinTiles.{tiles-whole}
@@ -45,11 +46,11 @@ module _ (script : Script) (table : TableDef) (kept : RunRecord) (run : IsRun sc
         ∙ shown_whole scan_reader (scan_opening script table) w.scan rise w.read
 
     -- the text of the record is that of one thread
-    pub text-thin : run_text script.tables (thin_shown script kept) (loaded_records script) ≡ answer_text script
-    text-thin = text-whole script table kept run w shows_all (loads_thin script table run w.tables) (loaded_records-thin script table run w.tables)
+    pub text-thin : run_text script.tables (thin_shown script kept) (loaded script).records ≡ answer_text script
+    text-thin = text-whole script table kept run w shows_all (loads_thin script table run w.tables)
 
     pub is_text-thin : IsText script kept (answer_text script)
     is_text-thin =
-        is_text-whole script table kept run w shows_all (loads_thin script table run w.tables) (loaded_records-thin script table run w.tables)
+        is_text-whole script table kept run w shows_all (loads_thin script table run w.tables)
         (reads-in_line (requester script 1) (scan ∷ []) (whole_log w.scan w.prepare w.commit)) (one_reading script run w.scan w.prepare w.commit)
         (thin_openings script table run w.tables)

@@ -6,10 +6,8 @@ use Rattle.sql_base.specs.declared.outcomes.Abort.{Abort}
 use Rattle.sql_base.specs.declared.outcomes.Given.TheVariants.{Rows}
 use Rattle.sql_base.specs.declared.outcomes.Outcome.{Outcome}
 use Rattle.sql_base.specs.declared.outcomes.Outcome.TheVariants.{Committed, RolledBack, Aborted}
-use Rattle.sql_base.specs.declared.scripts.Load.{Load}
 use Rattle.sql_base.specs.declared.scripts.Script.{Script}
 use Rattle.sql_base.specs.declared.tables.ColumnKind.{ColumnKind}
-use Rattle.sql_base.specs.declared.values.Value.{Value}
 use Rattle.one_thread.specs.declared.shown.Shown.{Shown}
 use Rattle.requester_fs.specs.Rows.{failure, is_end}
 use Rattle.requester_fs.specs.declared.logs.Answer.TheVariants.{Stamp}
@@ -59,11 +57,3 @@ first_kinds script = unwrap_or (option_map kinds (slice_get script.tables 0)) []
 -- what the one session of a record shows
 abbrev pub thin_shown : Script → RunRecord → List Shown
 thin_shown script kept = attempts_shown 1 (first_kinds script) (log_of kept 1)
-
--- the LOAD rows of a table
-abbrev pub load_rows : List Load → ℕ → List (List Value)
-load_rows loads table = flat_map (λ load. if load.table == table then load.rows else []) loads
-
--- the LOAD rows of each table, which are its records as long as only SELECTs run
-abbrev pub loaded_records : Script → List (List (List Value))
-loaded_records script = map (load_rows script.loads) (range_with_len 0 (length script.tables))

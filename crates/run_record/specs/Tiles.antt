@@ -13,7 +13,7 @@ use Rattle.partition_core.specs.State.{State}
 use Rattle.partition_core.specs.History.{before}
 use Rattle.one_thread.specs.One.{meets, fault_on, new_row_fault, row_after}
 use Rattle.requester_fs.specs.Plans.{Requester, Sent, Plan, Subsets, Singles, plan_of}
-use Rattle.requester_fs.specs.Follows.{Attempt, Reads, IsPart, projection, requester, works_of}
+use Rattle.requester_fs.specs.Follows.{Attempt, Reads, IsPart, AreTheirs, projection, requester, works_of}
 use Rattle.run_record.specs.Openings.{openings, history_of, log_of}
 use Rattle.sql_base.specs.declared.expressions.Expr.{Expr}
 use Rattle.sql_base.specs.declared.faults.Fault.{Fault}
@@ -179,13 +179,13 @@ StaysAround (Some a) = a.after ≡ a.held
 abbrev pub dones : List LogEntry → List LogEntry
 dones part = filter is_answered_done part
 
--- a SELECT, UPDATE or DELETE covers each piece of its range; an INSERT adds its row once; a LOCK TABLE was done once in each partition
+-- a SELECT, UPDATE or DELETE asks just the partitions of its pieces, and covers each piece; an INSERT adds its row once; a LOCK TABLE was done once in each partition
 abbrev pub TilesOn : Script → RunRecord → ℕ → TableDef → Statement → Plan → List LogEntry → Type 0
 TilesOn script kept session table (Insert t row) plan part =
     (e : LogEntry) × (dones part ≡ e ∷ []) × IsAdded (key_of table row) row (around script kept session (part_asked e) (sync_of e)) × (first_failing table.checks row ≡ None)
 TilesOn script kept session table (LockTable t mode) plan part =
     (map part_asked (dones part) ≡ map (λ sent. sent.part) (sents_of plan)) × AllByRecursion (λ e. StaysAround (around script kept session (part_asked e) (sync_of e))) (dones part)
-TilesOn script kept session table statement plan part = AllByRecursion (SentTiles script kept session table statement part) (sents_of plan)
+TilesOn script kept session table statement plan part = AreTheirs (sents_of plan) part × AllByRecursion (SentTiles script kept session table statement part) (sents_of plan)
 
 abbrev pub Tiles : Script → RunRecord → ℕ → Statement → List LogEntry → Type 0
 Tiles script kept session statement part =

@@ -1,12 +1,12 @@
 ghost use Rattle.std.specs.Prelude.{◌≡◌, ◌++◌, IfOk, OnOk};
-ghost use Rattle.run_record.specs.ThinText.{load_rows, loaded_records};
+ghost use Rattle.one_thread.specs.One.{load_rows, loaded};
 
 use sql_base::{List, Load, NoMemory, Row, Script};
 use std::alloc::Global;
 
 /// The LOAD rows of each table, in the order of the tables.
 pub fn loaded_records(alloc: Global, script: &Script) -> Result<List<List<Row>>, NoMemory>
-    ensures { IfOk result (λ records. records ≡ loaded_records script.now) }
+    ensures { IfOk result (λ records. records ≡ (loaded script.now).records) }
 {
     let mut records = List::new(alloc);
     for (place, _table) in script.tables.items().iter().enumerate() {

@@ -1,7 +1,8 @@
 ghost use Rattle.std.specs.Prelude.{◌≡◌, IfOk};
 ghost use Rattle.one_thread.specs.Text.{run_text};
 ghost use Rattle.run_record.specs.Openings.{log_of};
-ghost use Rattle.run_record.specs.ThinText.{first_kinds, loaded_records, thin_shown};
+ghost use Rattle.one_thread.specs.One.{loaded};
+ghost use Rattle.run_record.specs.ThinText.{first_kinds, thin_shown};
 
 use crate::attempts::shown_attempts;
 use crate::loads::loaded_records;
@@ -14,7 +15,7 @@ use std::alloc::Global;
 /// The text of the record of a script with one session, whose transactions are one SELECT each from the first table.
 /// Its last lines are the LOAD rows, which are the records at the end as long as only SELECTs run.
 pub fn text(alloc: Global, script: &Script, kept: &RunRecord) -> Result<Vec<u8>, NoMemory>
-    ensures { IfOk result (λ bytes. bytes.items ≡ run_text script.now.tables (thin_shown script.now kept.now) (loaded_records script.now)) }
+    ensures { IfOk result (λ bytes. bytes.items ≡ run_text script.now.tables (thin_shown script.now kept.now) (loaded script.now).records) }
 {
     let kinds = first_kinds(alloc, script)?;
     let shown = shown_attempts(alloc, 1, kinds.items(), first_log(kept))?;

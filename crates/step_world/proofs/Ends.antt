@@ -13,13 +13,14 @@ use Rattle.requester_fs.specs.Sessions.{Next, Ends, Working}
 use Rattle.requester_fs.specs.declared.places.Stage.{Stage}
 use Rattle.requester_fs.specs.declared.places.Stage.TheVariants.{Finished}
 use Rattle.one_thread.specs.Answer.{answer_text}
+use Rattle.one_thread.specs.One.{loaded}
 use Rattle.one_thread.specs.Text.{run_text}
 use Rattle.run_record.proofs.ThinLegal.{legal-whole}
 use Rattle.run_record.proofs.ThinReading.{only_session}
 use Rattle.run_record.proofs.ThinWhole.{tiles-thin, text-thin, is_text-thin}
 use Rattle.run_record.specs.Headline.{Headline}
 use Rattle.run_record.specs.Openings.{log_of}
-use Rattle.run_record.specs.ThinText.{loaded_records, thin_shown}
+use Rattle.run_record.specs.ThinText.{thin_shown}
 use Rattle.run_record.specs.WholeScan.{WholeScan, scan_opening}
 use Rattle.run_record.specs.declared.records.RunRecord.{RunRecord}
 use Rattle.step_world.specs.Running.{Running, Stands}
@@ -77,6 +78,6 @@ headline script s k journal run ends =
 
 -- and what is printed of it is what one thread prints
 pub printed : (script : Script) (s : Working) (k : Kept) (journal : List Drawn) → Running script s k journal → s.next ≡ Ends
-    → run_text script.tables (thin_shown script (kept_of s k journal)) (loaded_records script) ≡ answer_text script
+    → run_text script.tables (thin_shown script (kept_of s k journal)) (loaded script).records ≡ answer_text script
 printed script s k journal run ends =
     text-thin script run.table (kept_of s k journal) run.run (ends_whole script s k journal run ends) run.suits.rise

@@ -1,9 +1,10 @@
 //! The run of a script with one session and one partition.
 ghost use Rattle.std.specs.Prelude.{◌≡◌, ◌∷◌, [], IfOk};
 ghost use Rattle.one_thread.specs.Answer.{answer_text};
+ghost use Rattle.one_thread.specs.One.{loaded};
 ghost use Rattle.one_thread.specs.Text.{run_text};
 ghost use Rattle.run_record.specs.Headline.{Headline};
-ghost use Rattle.run_record.specs.ThinText.{loaded_records, thin_shown};
+ghost use Rattle.run_record.specs.ThinText.{thin_shown};
 ghost use Rattle.run_record.specs.WholeScan.{IsRun};
 ghost use Rattle.step_world.specs.Running.{Opens};
 
@@ -20,7 +21,7 @@ use std::alloc::Global;
 pub fn drive(alloc: Global, script: &Script) -> Result<RunRecord, NoMemory>
     requires { IsRun script.now }
     ensures headline { IfOk result (Headline script.now) }
-    ensures printed { IfOk result (λ kept. run_text script.now.tables (thin_shown script.now kept) (loaded_records script.now) ≡ answer_text script.now) }
+    ensures printed { IfOk result (λ kept. run_text script.now.tables (thin_shown script.now kept) (loaded script.now).records ≡ answer_text script.now) }
 {
     let mut partition = open(alloc, script)?;
     let mut session = Session::new(alloc, script, 1)?;

@@ -2,7 +2,7 @@ use Rattle.std.proofs.Common.{◌≡◌, [], ◌∷◌, ◌++◌, List, ap, arit
 use Rattle.std.proofs.lemmas.List.FromFn.{map-range_with_len_more}
 use Rattle.sql_base.specs.declared.scripts.Load.{Load}
 use Rattle.sql_base.specs.declared.values.Value.{Value}
-use Rattle.run_record.specs.ThinText.{load_rows}
+use Rattle.one_thread.specs.One.{load_rows}
 use Rattle.run_record.proofs.loads.loaded_records.Goals as goal
 
 pub loop-place-preserved : goal.loop-place-preserved

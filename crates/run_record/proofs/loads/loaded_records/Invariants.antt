@@ -1,6 +1,6 @@
 use Rattle.std.proofs.Common.{◌≡◌, map}
 use Rattle.std.specs.List.{range_with_len}
-use Rattle.run_record.specs.ThinText.{load_rows}
+use Rattle.one_thread.specs.One.{load_rows}
 use Rattle.run_record.proofs.loads.loaded_records.Given as goal
 
 -- the records of the tables so far

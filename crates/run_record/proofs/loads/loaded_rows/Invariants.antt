@@ -1,5 +1,5 @@
 use Rattle.std.proofs.Common.{◌≡◌, take}
-use Rattle.run_record.specs.ThinText.{load_rows}
+use Rattle.one_thread.specs.One.{load_rows}
 use Rattle.run_record.proofs.loads.loaded_rows.Given as goal
 
 -- the rows of the loads so far

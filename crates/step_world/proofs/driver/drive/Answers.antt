@@ -1,9 +1,10 @@
 -- The run goes from its start to a whole scan, whose record is that of a run of the script.
 use Rattle.std.proofs.Common.{◌≡◌, ap, Ok}
 use Rattle.one_thread.specs.Answer.{answer_text}
+use Rattle.one_thread.specs.One.{loaded}
 use Rattle.one_thread.specs.Text.{run_text}
 use Rattle.run_record.specs.Headline.{Headline}
-use Rattle.run_record.specs.ThinText.{loaded_records, thin_shown}
+use Rattle.run_record.specs.ThinText.{thin_shown}
 use Rattle.step_world.proofs.Ends.{headline, kept_of, of_kept, printed}
 use Rattle.step_world.proofs.Starts.{starts}
 use Rattle.step_world.proofs.driver.drive.Goals as goal
@@ -27,4 +28,4 @@ returns-clause-printed c =
     let holds = printed c.args.script.now c.step.new.session c.step.new.partition c.step.new.journal
     (c.in_ok-step.ensures.runs c.args.script.now c.loop-journal.invariant) (c.in_ok-step.ensures.ends (ap Ok c.if-branch.false)) in
     of_kept c.record.result (kept_of c.step.new.session c.step.new.partition c.step.new.journal)
-    (λ kept. run_text c.args.script.now.tables (thin_shown c.args.script.now kept) (loaded_records c.args.script.now) ≡ answer_text c.args.script.now) c.record.ensures holds
+    (λ kept. run_text c.args.script.now.tables (thin_shown c.args.script.now kept) (loaded c.args.script.now).records ≡ answer_text c.args.script.now) c.record.ensures holds
