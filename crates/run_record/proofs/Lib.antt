@@ -2,6 +2,8 @@ mod TwoSessions
 mod WorkedRows
 mod TwoReadings
 mod TwoSerial
+mod WrongRuns
+mod WrongLogs
 pub mod ThinOpenings
 pub mod WholeLogs
 pub mod ThinLegal

@@ -54,7 +54,8 @@ part_is part rest end is (inl h) =
 part_is part rest end is (inr h) = absurd h
 
 -- a draw behind its Prepare drew the stamp 1
-commits_with : (floor stamp : ℕ) (floors : List ℕ) (prepares ends : List LogEntry) → its_ending ≡ prepares ++ Drew (name 2) floor (Stamp stamp) ∷ ends → ArePrepares 1 (0 ∷ []) prepares floors → stamp ≡ 1
+commits_with : (floor stamp : ℕ) (floors : List ℕ) (prepares ends : List LogEntry) → its_ending ≡ prepares ++ Drew (name 2) floor (Stamp stamp) ∷ ends
+    → ArePrepares 1 (0 ∷ []) prepares floors → stamp ≡ 1
 commits_with floor stamp floors [] ends is h = absurd (cc)
 commits_with floor stamp floors (p ∷ []) ends is h = cc
 commits_with floor stamp [] (p ∷ q ∷ ps) ends is h = absurd h
