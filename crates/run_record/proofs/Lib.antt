@@ -2,6 +2,8 @@ mod TwoSessions
 mod WorkedRows
 mod TwoReadings
 mod TwoSerial
+mod TwoLegal
+mod TwoTiles
 mod WrongRuns
 mod WrongLogs
 pub mod ThinOpenings

@@ -12,12 +12,12 @@ use Rattle.run_record.proofs.WorkedRows.{final_tables, reader_alone, writer_alon
 use Rattle.run_record.proofs.TwoSessions.{first_draw, kept, reader, script, second_draw, writer}
 
 -- what is in a list of one is that one
-in_one : {X : Type 0} (x y : X) → Contains (x ∷ []) y → y ≡ x
+pub in_one : {X : Type 0} (x y : X) → Contains (x ∷ []) y → y ≡ x
 in_one x y (zero, lt, is) = sym is
 in_one x y (suc k, lt, is) = absurd (omega (arith, lt))
 
 -- sessions are counted from 1 to 2
-either : (n : ℕ) → Lies 1 2 n → (n ≡ 1) ⊎ (n ≡ 2)
+pub either : (n : ℕ) → Lies 1 2 n → (n ≡ 1) ⊎ (n ≡ 2)
 either zero h = absurd (omega (arith, h.0))
 either (suc zero) h = inl refl
 either (suc (suc zero)) h = inr refl

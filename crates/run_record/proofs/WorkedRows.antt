@@ -8,7 +8,7 @@ use Rattle.run_record.specs.Serial.{RanAlone, final_records, next_stamp}
 use Rattle.run_record.proofs.TwoSessions.{script, kept, reader, writer, first_draw, second_draw, row}
 
 -- the history is one of its partition
-history_replays : AllZip IsLegal (openings script) kept.histories
+pub history_replays : AllZip IsLegal (openings script) kept.histories
 history_replays = (
   ((lit≤ tt, lit≤ tt), refl, ((lit≤ tt, lit≤ tt), refl, ((lit≤ tt, lit≤ tt), refl, ((lit≤ tt, lit≤ tt), refl, ((lit≤ tt, lit≤ tt), refl, ((lit≤ tt, lit≤ tt), refl, tt)))))),
   tt,
