@@ -1,7 +1,6 @@
 -- Worked rows of the text of a run and of one thread, for a table of two numbers in which k holds 10 * k.
-use Rattle.std.proofs.Common.{◌≡◌, ℕ, ◌*◌, pos, negsuc, List, [], ◌∷◌, ◌++◌, None, true, false, map, refl, lit≤}
-use Rattle.std.specs.Prelude.{codes, decimal, flat_map}
-use Rattle.std.proofs.lemmas.Fmt.{decimal_digit, decimal_step}
+use Rattle.std.proofs.Common.{◌≡◌, ℕ, ◌*◌, pos, negsuc, List, [], ◌∷◌, ◌++◌, None, true, false, map, refl}
+use Rattle.std.specs.Prelude.{codes}
 use Rattle.sql_base.specs.Rows.{key_of, kinds, packed}
 use Rattle.one_thread.specs.Answer.{answer_text, sessions_shown, world_behind}
 use Rattle.one_thread.specs.One.{loaded}
@@ -18,6 +17,7 @@ use Rattle.sql_base.specs.declared.tables.TableDef.{TableDef}
 use Rattle.sql_base.specs.declared.values.Value.{Value}
 use Rattle.sql_base.specs.declared.values.Value.TheVariants as value
 use Rattle.one_thread.specs.declared.shown.Shown.{Shown}
+use Rattle.one_thread.proofs.Numbers.{lines, numbers}
 
 -- t (k INT, v INT, PRIMARY KEY (k))
 abbrev table : TableDef
@@ -29,49 +29,6 @@ row k = value.Int (pos k) ∷ value.Int (pos (10 * k)) ∷ []
 
 abbrev both : ℕ → List ℕ
 both k = packed (0 ∷ 1 ∷ []) (row k)
-
--- lines, each with its line feed
-abbrev lines : List (List ℕ) → List ℕ
-lines texts = flat_map (λ (text : List ℕ). text ++ 0x0A ∷ []) texts
-
--- the numbers of these rows as they are written
-decimal-1 : decimal 1 ≡ codes "1"
-decimal-1 = decimal_digit 1 (lit≤ tt)
-
-decimal-2 : decimal 2 ≡ codes "2"
-decimal-2 = decimal_digit 2 (lit≤ tt)
-
-decimal-3 : decimal 3 ≡ codes "3"
-decimal-3 = decimal_digit 3 (lit≤ tt)
-
-decimal-4 : decimal 4 ≡ codes "4"
-decimal-4 = decimal_digit 4 (lit≤ tt)
-
-decimal-5 : decimal 5 ≡ codes "5"
-decimal-5 = decimal_digit 5 (lit≤ tt)
-
-decimal-10 : decimal 10 ≡ codes "10"
-decimal-10 = simp (decimal_step 10 (lit≤ tt) (lit≤ tt), decimal-1) refl
-
-decimal-20 : decimal 20 ≡ codes "20"
-decimal-20 = simp (decimal_step 20 (lit≤ tt) (lit≤ tt), decimal-2) refl
-
-decimal-30 : decimal 30 ≡ codes "30"
-decimal-30 = simp (decimal_step 30 (lit≤ tt) (lit≤ tt), decimal-3) refl
-
-decimal-40 : decimal 40 ≡ codes "40"
-decimal-40 = simp (decimal_step 40 (lit≤ tt) (lit≤ tt), decimal-4) refl
-
-decimal-50 : decimal 50 ≡ codes "50"
-decimal-50 = simp (decimal_step 50 (lit≤ tt) (lit≤ tt), decimal-5) refl
-
-decimal-9 : decimal 9 ≡ codes "9"
-decimal-9 = decimal_digit 9 (lit≤ tt)
-
-decimal-90 : decimal 90 ≡ codes "90"
-decimal-90 = simp (decimal_step 90 (lit≤ tt) (lit≤ tt), decimal-9) refl
-
-ruleset numbers = (decimal-1, decimal-2, decimal-3, decimal-4, decimal-5, decimal-9, decimal-10, decimal-20, decimal-30, decimal-40, decimal-50, decimal-90)
 
 -- the attempt that read all five records and committed with the stamp 1
 abbrev shown : Shown

@@ -4,6 +4,7 @@ mod TwoReadings
 mod TwoSerial
 mod TwoLegal
 mod TwoTiles
+mod TwoText
 mod WrongRuns
 mod WrongLogs
 pub mod ThinOpenings

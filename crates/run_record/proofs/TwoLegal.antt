@@ -147,15 +147,15 @@ reader_commits = (
   refl,
 )
 
+pub reader_reads : Reads IsPart (requester script 1) (works_of script 1) (log_of kept 1) (reader ∷ [])
+reader_reads = record {
+  syncs = (refl, (refl, (refl, tt)));
+  entries = refl;
+  attempts_are = (reader ∷ [], [], refl, (attempt_of 1 reading reader refl refl (inl (reader_part, refl)) (inl reader_commits), λ h. refl), refl);
+}
+
 reader_follows : follows script 1 (log_of kept 1)
-reader_follows = (
-  reader ∷ [],
-  record {
-    syncs = (refl, (refl, (refl, tt)));
-    entries = refl;
-    attempts_are = (reader ∷ [], [], refl, (attempt_of 1 reading reader refl refl (inl (reader_part, refl)) (inl reader_commits), λ h. refl), refl);
-  },
-)
+reader_follows = (reader ∷ [], reader_reads)
 
 writer_part : IsPart (requester script 2) 1 (Insert 0 (row 9)) (asked 1 (ask.Insert (both 9)) reply.Done ∷ []) None
 writer_part =
@@ -177,15 +177,15 @@ writer_commits = (
   refl,
 )
 
+pub writer_reads : Reads IsPart (requester script 2) (works_of script 2) (log_of kept 2) (writer ∷ [])
+writer_reads = record {
+  syncs = (refl, (refl, (refl, tt)));
+  entries = refl;
+  attempts_are = (writer ∷ [], [], refl, (attempt_of 2 inserting writer refl refl (inl (writer_part, refl)) (inl writer_commits), λ h. refl), refl);
+}
+
 writer_follows : follows script 2 (log_of kept 2)
-writer_follows = (
-  writer ∷ [],
-  record {
-    syncs = (refl, (refl, (refl, tt)));
-    entries = refl;
-    attempts_are = (writer ∷ [], [], refl, (attempt_of 2 inserting writer refl refl (inl (writer_part, refl)) (inl writer_commits), λ h. refl), refl);
-  },
-)
+writer_follows = (writer ∷ [], writer_reads)
 
 each_follows : (session : ℕ) → Lies 1 2 session → follows script session (log_of kept session)
 each_follows zero lies = absurd (omega (arith, lies.0))
