@@ -53,6 +53,5 @@ written : run_text (table ∷ []) shown_rows (map row (1 ∷ 2 ∷ 3 ∷ 9 ∷ [
 written = simp numbers refl
 
 -- so those bytes are the text of the record
-
 pub two_text : IsText script kept text
 two_text = (shown, shows, sym written)

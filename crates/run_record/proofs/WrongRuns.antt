@@ -22,11 +22,12 @@ use Rattle.requester_fs.specs.Follows.{projection, requester}
 use Rattle.requester_fs.specs.declared.logs.Answer.TheVariants.{Stamp}
 use Rattle.requester_fs.specs.declared.logs.LogEntry.{LogEntry}
 use Rattle.requester_fs.specs.declared.logs.LogEntry.TheVariants.{Drew}
-use Rattle.run_record.specs.Legal.{AttemptsEnded, FloorsCovered, StampsRise}
+use Rattle.run_record.specs.Legal.{AttemptsEnded, EntriesAsked, FloorsCovered, StampsRise}
 use Rattle.run_record.specs.Openings.{openings}
+use Rattle.run_record.specs.Serial.{RanAlone}
 use Rattle.run_record.specs.Tiles.{Interval, MatchesAround, PieceTiles, Tiles, TilesOn, around}
 use Rattle.run_record.specs.declared.records.RunRecord.{RunRecord}
-use Rattle.run_record.proofs.TwoSessions.{all_four, asked, both, entry, first_draw, kept, name, reading, scan, script, second_draw, table}
+use Rattle.run_record.proofs.TwoSessions.{all_four, asked, both, entry, first_draw, kept, name, reader, reading, scan, script, second_draw, table}
 
 -- the key of a record
 abbrev key : ℕ → List ℕ
@@ -210,3 +211,18 @@ commits_in_one h = cc h.ends.1.0.0
 -- and one that isn't in the journal, and committed in a partition
 commits_unstamped : AttemptsEnded by_two (record half_committed { journal = [] }) → ⊥
 commits_unstamped h = cc h.ends.0.0.0
+
+-- the reader's stamp is above the writer's, but it is shown the three records from before
+abbrev three : PartitionReply
+three = reply.Ended (both 1 ∷ both 2 ∷ both 3 ∷ []) 0
+
+shows_too_few : RanAlone script kept 1 (record reader { parts = (asked 1 scan three ∷ []) ∷ [] }) second_draw → ⊥
+shows_too_few h = cc h.results
+
+-- the log has another reply than the history
+replies_differ : EntriesAsked by_two (record right { logs = part (both 1 ∷ []) next_two (both 3 ∷ []) ∷ [] }) → ⊥
+replies_differ h = cc ((h.served 0 1 (lit≤ tt) (lit≤ tt, lit≤ tt)).1)
+
+-- the history has an entry that the log didn't ask
+asked_by_none : EntriesAsked by_two (record right { logs = (asked 1 scan (first_reply (both 1 ∷ both 2 ∷ [])) ∷ []) ∷ [] }) → ⊥
+asked_by_none h = cc ((h.served 0 1 (lit≤ tt) (lit≤ tt, lit≤ tt)).2)
