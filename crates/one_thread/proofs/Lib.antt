@@ -1,2 +1,4 @@
 pub mod Lines
 pub mod Tables
+pub mod Numbers
+mod WorkedRows

@@ -1,121 +1,30 @@
--- A worked record: of two sessions over three records, the second inserts one and commits, then the first reads all.
-use Rattle.std.proofs.Common.{◌≡◌, ℕ, ◌*◌, pos, List, [], ◌∷◌, Some, None, true, refl}
-use Rattle.std.specs.Prelude.{codes}
-use Rattle.sql_base.specs.Rows.{key_value, packed}
-use Rattle.requester_fs.specs.Follows.{Attempt}
+-- Worked rows of a record of two sessions.
+use Rattle.std.proofs.Common.{◌≡◌, [], ◌∷◌, refl, lit≤}
+use Rattle.std.specs.List.{AllZip}
+use Rattle.partition_core.specs.History.{IsLegal}
 use Rattle.run_record.specs.Base.{base}
 use Rattle.run_record.specs.Openings.{openings}
 use Rattle.run_record.specs.Serial.{RanAlone, final_records, next_stamp}
-use Rattle.run_record.specs.Settled.{settled}
-use Rattle.partition_core.specs.History.{IsLegal, before}
-use Rattle.key_sequenced.specs.Cells.{Keyed}
-use Rattle.sql_base.specs.declared.key_ranges.KeyRange.{KeyRange}
-use Rattle.sql_base.specs.declared.lock_names.Access.TheVariants.{Repeatable}
-use Rattle.sql_base.specs.declared.lock_names.TxnName.{TxnName}
-use Rattle.sql_base.specs.declared.outcomes.Outcome.TheVariants.{Committed}
-use Rattle.sql_base.specs.declared.scripts.Load.{Load}
-use Rattle.sql_base.specs.declared.scripts.Script.{Script}
-use Rattle.sql_base.specs.declared.scripts.Work.{Work}
-use Rattle.sql_base.specs.declared.statements.Statement.TheVariants.{Select, Insert}
-use Rattle.sql_base.specs.declared.tables.ColumnKind.TheVariants.{Int}
-use Rattle.sql_base.specs.declared.tables.TableDef.{TableDef}
-use Rattle.sql_base.specs.declared.values.Value.{Value}
-use Rattle.sql_base.specs.declared.values.Value.TheVariants as value
-use Rattle.commit_journal.specs.declared.Drawn.{Drawn}
-use Rattle.dp_messages.specs.declared.replies.Reply.{Reply as PartitionReply}
-use Rattle.dp_messages.specs.declared.replies.Reply.TheVariants as reply
-use Rattle.dp_messages.specs.declared.requests.Ask.{Ask}
-use Rattle.dp_messages.specs.declared.requests.Ask.TheVariants as ask
-use Rattle.partition_core.specs.declared.entries.Entry.{Entry}
-use Rattle.requester_fs.specs.declared.logs.Answer.TheVariants.{Reply, Stamp}
-use Rattle.requester_fs.specs.declared.logs.LogEntry.{LogEntry}
-use Rattle.requester_fs.specs.declared.logs.LogEntry.TheVariants.{Asked, Drew}
-use Rattle.run_record.specs.declared.records.RunRecord.{RunRecord}
+use Rattle.run_record.proofs.TwoSessions.{script, kept, reader, writer, first_draw, second_draw, row}
 
-abbrev table : TableDef
-table = record { name = codes "t"; columns = record { name = codes "k"; kind = Int } ∷ record { name = codes "v"; kind = Int } ∷ []; key = 0 ∷ []; checks = []; firsts = [] }
-
-abbrev row : ℕ → List Value
-row k = value.Int (pos k) ∷ value.Int (pos (10 * k)) ∷ []
-
-abbrev both : ℕ → List ℕ
-both k = packed (0 ∷ 1 ∷ []) (row k)
-
-abbrev reading : Work
-reading = record { statements = Select 0 (0 ∷ 1 ∷ []) None Repeatable ∷ []; commit = true }
-
-abbrev inserting : Work
-inserting = record { statements = Insert 0 (row 9) ∷ []; commit = true }
-
-abbrev script : Script
-script = record {
-  limits = record { quantum = 50; buffer = 4096; patience = 8; servers = 2; restart = 0 };
-  tables = table ∷ [];
-  loads = record { table = 0; rows = row 1 ∷ row 2 ∷ row 3 ∷ [] } ∷ [];
-  sessions = (reading ∷ []) ∷ (inserting ∷ []) ∷ [];
-}
-
-abbrev scan : Ask
-scan = ask.BeginRead Repeatable [] (record { low = 0 ∷ 0 ∷ 0 ∷ 0 ∷ 0 ∷ 0 ∷ 0 ∷ 0 ∷ []; high = 0xFF ∷ 0xFF ∷ 0xFF ∷ 0xFF ∷ 0xFF ∷ 0xFF ∷ 0xFF ∷ 0xFF ∷ [] }) None (0 ∷ 1 ∷ [])
-
-abbrev all_four : PartitionReply
-all_four = reply.Ended (both 1 ∷ both 2 ∷ both 3 ∷ both 9 ∷ []) 0
-
-abbrev entry : ℕ → ℕ → Ask → PartitionReply → Entry
-entry opener sync a r = record { opener = opener; sync = sync; request = record { ordinal = 1; ask = a }; reply = r }
-
-abbrev asked : ℕ → Ask → PartitionReply → LogEntry
-asked sync a r = Asked 0 sync (record { ordinal = 1; ask = a }) 0 (Reply r)
-
-abbrev name : ℕ → TxnName
-name session = record { session = session; ordinal = 1 }
-
-abbrev history : List Entry
-history = entry 2 1 (ask.Insert (both 9)) reply.Done ∷ entry 2 2 ask.Prepare (reply.Floor 0) ∷ entry 2 3 (ask.EndCommit 1) reply.Done
-    ∷ entry 1 1 scan all_four ∷ entry 1 2 ask.Prepare (reply.Floor 1) ∷ entry 1 3 (ask.EndCommit 2) reply.Done ∷ []
-
-abbrev first_draw : Drawn
-first_draw = record { name = name 2; floor = 0; stamp = 1 }
-
-abbrev second_draw : Drawn
-second_draw = record { name = name 1; floor = 1; stamp = 2 }
-
-abbrev reader : Attempt
-reader = record {
-  work = reading;
-  ordinal = 1;
-  parts = (asked 1 scan all_four ∷ []) ∷ [];
-  ending = asked 2 ask.Prepare (reply.Floor 1) ∷ Drew (name 1) 1 (Stamp 2) ∷ asked 3 (ask.EndCommit 2) reply.Done ∷ [];
-  outcome = Committed 2;
-}
-
-abbrev writer : Attempt
-writer = record {
-  work = inserting;
-  ordinal = 1;
-  parts = (asked 1 (ask.Insert (both 9)) reply.Done ∷ []) ∷ [];
-  ending = asked 2 ask.Prepare (reply.Floor 0) ∷ Drew (name 2) 0 (Stamp 1) ∷ asked 3 (ask.EndCommit 1) reply.Done ∷ [];
-  outcome = Committed 1;
-}
-
-abbrev kept : RunRecord
-kept = record {
-  histories = history ∷ [];
-  journal = first_draw ∷ second_draw ∷ [];
-  logs = (asked 1 scan all_four ∷ asked 2 ask.Prepare (reply.Floor 1) ∷ Drew (name 1) 1 (Stamp 2) ∷ asked 3 (ask.EndCommit 2) reply.Done ∷ [])
-      ∷ (asked 1 (ask.Insert (both 9)) reply.Done ∷ asked 2 ask.Prepare (reply.Floor 0) ∷ Drew (name 2) 0 (Stamp 1) ∷ asked 3 (ask.EndCommit 1) reply.Done ∷ []) ∷ [];
-  acts = [];
-}
+-- the history is one of its partition
+pub history_replays : AllZip IsLegal (openings script) kept.histories
+history_replays = (
+  ((lit≤ tt, lit≤ tt), refl, ((lit≤ tt, lit≤ tt), refl, ((lit≤ tt, lit≤ tt), refl, ((lit≤ tt, lit≤ tt), refl, ((lit≤ tt, lit≤ tt), refl, ((lit≤ tt, lit≤ tt), refl, tt)))))),
+  tt,
+)
 
 -- below the stamp 2 the inserted row stands, so the reader alone sees four rows
 base_of_the_reader : (base script kept 2).records ≡ (row 1 ∷ row 2 ∷ row 3 ∷ row 9 ∷ []) ∷ []
 base_of_the_reader = refl
 
-reader_alone : RanAlone script kept 1 reader second_draw
+-- each transaction, run alone below its stamp, gives and leaves what it gave and left in the run
+pub reader_alone : RanAlone script kept 1 reader second_draw
 reader_alone = record { commits = refl; results = refl; changes_are = refl }
 
-writer_alone : RanAlone script kept 2 writer first_draw
+pub writer_alone : RanAlone script kept 2 writer first_draw
 writer_alone = record { commits = refl; results = refl; changes_are = refl }
 
-final_tables : final_records script kept ≡ (base script kept (next_stamp kept)).records
+-- the final tables are those after the last stamp
+pub final_tables : final_records script kept ≡ (base script kept (next_stamp kept)).records
 final_tables = refl
