@@ -35,7 +35,7 @@ read_exactly i is =
     subst (λ x. MatchesAround table select x all_four (around script kept 1 0 1)) same ((refl, (refl, (refl, (refl, tt)))), (refl, refl))
 
 reader_tiles : Tiles script kept 1 select (asked 1 scan all_four ∷ [])
-reader_tiles = (table, refl, ((all_keys, refl, record { cover = (refl, refl); exact = (read_exactly, tt) }), tt))
+reader_tiles = (table, refl, ((refl, tt), ((all_keys, refl, record { cover = (refl, refl); exact = (read_exactly, tt) }), tt)))
 
 -- the writer's row came behind the three that stood
 abbrev record_of : ℕ → Keyed

@@ -100,22 +100,25 @@ right_tiles = (
   table,
   refl,
   (
+    (refl, (refl, tt)),
     (
-      all_keys,
-      refl,
-      record {
-        cover = (refl, refl, refl, (refl, refl));
-        exact = (λ i is. same_interval 1 (first_reply (both 1 ∷ both 2 ∷ [])) _ i is first_exact, (λ i is. same_interval 2 (reply.Ended (both 3 ∷ []) 0) _ i is second_exact, tt));
-      },
+      (
+        all_keys,
+        refl,
+        record {
+          cover = (refl, refl, refl, (refl, refl));
+          exact = (λ i is. same_interval 1 (first_reply (both 1 ∷ both 2 ∷ [])) _ i is first_exact, (λ i is. same_interval 2 (reply.Ended (both 3 ∷ []) 0) _ i is second_exact, tt));
+        },
+      ),
+      tt,
     ),
-    tt,
   ),
 )
 
 -- what tiles the range of the SELECT tiles its one piece
 on_table : (wrong : RunRecord) (entries : List LogEntry) → TilesOn by_two wrong 1 table select (plan_of (requester by_two 1) select) entries
     → PieceTiles by_two wrong 1 table select all_keys (projection entries sent)
-on_table wrong entries ((range, is, tiles), none) =
+on_table wrong entries (theirs, ((range, is, tiles), none)) =
     let same : range ≡ all_keys = cc is in
     subst (λ r. PieceTiles by_two wrong 1 table select r (projection entries sent)) same tiles
 
