@@ -8,3 +8,4 @@ pub mod ThinTiles
 pub mod ThinAnswer
 pub mod ThinShown
 pub mod ThinWhole
+pub mod ThinSerial
