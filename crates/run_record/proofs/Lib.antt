@@ -16,3 +16,4 @@ pub mod ThinTiles
 pub mod ThinAnswer
 pub mod ThinShown
 pub mod ThinWhole
+pub mod ThinSerial

@@ -17,6 +17,7 @@ use Rattle.one_thread.specs.One.{loaded}
 use Rattle.one_thread.specs.Text.{run_text}
 use Rattle.run_record.proofs.ThinLegal.{legal-whole}
 use Rattle.run_record.proofs.ThinReading.{only_session}
+use Rattle.run_record.proofs.ThinSerial.{serial-thin}
 use Rattle.run_record.proofs.ThinWhole.{tiles-thin, text-thin, is_text-thin}
 use Rattle.run_record.specs.Headline.{Headline}
 use Rattle.run_record.specs.Openings.{log_of}
@@ -74,6 +75,7 @@ headline script s k journal run ends =
       tiles = tiles-thin script run.table kept run.run whole;
       in_line_is = λ session lies. subst (λ n. in_line script n (log_of kept n)) (sym (only_session script run.run.thin session lies)) (run.session.ends_where_whole.0 ends);
       text = is_text-thin script run.table kept run.run whole run.suits.rise;
+      serial = serial-thin script run.table kept run.run whole run.suits.rise;
     }
 
 -- and what is printed of it is what one thread prints
