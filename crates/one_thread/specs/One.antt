@@ -1,5 +1,5 @@
 -- Statements and transactions in one thread.
-use Rattle.std.specs.Prelude.{ℕ, ◌+◌, List, [], ◌∷◌, ◌++◌, length, map, filter, filter_map, find, count_by, flat_map, slice_get, slice_set, Option, Some, None, option_map, unwrap_or, Bool, true, false, not, ◌&&◌, ◌==◌, Result, Ok, Err, if◌then◌else◌}
+use Rattle.std.specs.Prelude.{ℕ, List, [], ◌∷◌, ◌++◌, length, map, filter, count_by, flat_map, slice_get, slice_set, Option, Some, None, option_map, unwrap_or, Bool, true, false, not, ◌&&◌, ◌==◌, Result, Ok, Err, if◌then◌else◌}
 use Rattle.std.specs.List.{list_any, range_with_len}
 use Rattle.sql_base.specs.Keys.{key_lt, key_eq}
 use Rattle.sql_base.specs.Rows.{chosen, kinds, key_of, packed}

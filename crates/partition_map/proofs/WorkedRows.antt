@@ -2,9 +2,6 @@
 use Rattle.std.proofs.Common.{◌≡◌, ℕ, pos, List, [], ◌∷◌, refl}
 use Rattle.std.specs.Prelude.{codes}
 use Rattle.partition_map.specs.Map.{cut, part_of, just_below}
-use Rattle.partition_map.specs.declared.Piece.{Piece}
-use Rattle.sql_base.specs.declared.key_ranges.KeyRange.{KeyRange}
-use Rattle.sql_base.specs.declared.tables.Column.{Column}
 use Rattle.sql_base.specs.declared.tables.ColumnKind.TheVariants.{Int}
 use Rattle.sql_base.specs.declared.tables.TableDef.{TableDef}
 use Rattle.sql_base.specs.declared.values.Value.TheVariants as value

@@ -1,15 +1,13 @@
 -- Worked rows of ranges.
-use Rattle.std.proofs.Common.{◌≡◌, ℤ, ℕ, pos, List, [], ◌∷◌, ◌++◌, Option, Some, None, refl, ap}
+use Rattle.std.proofs.Common.{◌≡◌, ℤ, ℕ, pos, List, [], ◌∷◌, ◌++◌, Some, None, refl}
 use Rattle.std.specs.Prelude.{codes}
 use Rattle.sql_base.proofs.Trees.{fold-Number, fold-Text, fold-Column, fold-Compare, fold-And}
 use Rattle.sql_base.specs.Keys.{common_prefix}
-use Rattle.range_finder.specs.Range.{Shape, Bounds, AColumn, ALiteral, shape_step, shape_of_compare, bounds_in, bounds_of, range}
+use Rattle.range_finder.specs.Range.{Shape, Bounds, AColumn, ALiteral, shape_step, shape_of_compare, bounds_in, range}
 use Rattle.sql_base.specs.declared.expressions.CompareOp.{CompareOp}
 use Rattle.sql_base.specs.declared.expressions.CompareOp.TheVariants.{Eq, Lt, Gt, Ge}
 use Rattle.sql_base.specs.declared.expressions.Expr.{Expr, fold-Expr}
 use Rattle.sql_base.specs.declared.expressions.Expr.TheVariants as expr
-use Rattle.sql_base.specs.declared.key_ranges.KeyRange.{KeyRange}
-use Rattle.sql_base.specs.declared.tables.Column.{Column}
 use Rattle.sql_base.specs.declared.tables.ColumnKind.{ColumnKind}
 use Rattle.sql_base.specs.declared.tables.ColumnKind.TheVariants.{Int, Char}
 use Rattle.sql_base.specs.declared.tables.TableDef.{TableDef}

@@ -1,8 +1,8 @@
 -- The range of keys that a predicate leaves.
-use Rattle.std.specs.Prelude.{◌≡◌, ◌≢◌, ℕ, ◌+◌, ◌-◌, ◌^◌, ℤ, pos, negsuc, ◌+ℤ◌, ◌-ℤ◌, int_lt, nat_le, List, [], ◌∷◌, ◌++◌, length, replicate, map, filter, filter_map, flat_map, fold, sum_by, Option, Some, None, option_map, unwrap_or, slice_get, Bool, true, false, ◌&&◌, ◌==◌, Result, Ok, if◌then◌else◌}
+use Rattle.std.specs.Prelude.{◌≡◌, ◌≢◌, ℕ, ◌-◌, ◌^◌, ℤ, pos, negsuc, ◌+ℤ◌, ◌-ℤ◌, int_lt, List, [], ◌∷◌, ◌++◌, replicate, filter, filter_map, fold, sum_by, Option, Some, None, option_map, unwrap_or, slice_get, Bool, true, false, ◌&&◌, ◌==◌, Ok, if◌then◌else◌}
 use Rattle.std.specs.Ordering.{int_eq}
 use Rattle.sql_base.specs.Keys.{key_eq, key_lt, key_max, key_min, is_within}
-use Rattle.sql_base.specs.Rows.{width, kinds, padded, key_value, key_of, key_width, IsRow}
+use Rattle.sql_base.specs.Rows.{width, kinds, padded, key_value, key_of, IsRow}
 use Rattle.sql_base.specs.Tables.{is_literal_of, IsTable, IsFilter}
 use Rattle.sql_base.specs.Val.{filter_val, IsTruth}
 use Rattle.sql_base.specs.declared.expressions.CompareOp.{CompareOp}

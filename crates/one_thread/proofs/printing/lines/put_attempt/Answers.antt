@@ -1,4 +1,4 @@
-use Rattle.std.proofs.Common.{[], ◌∷◌}
+use Rattle.std.proofs.Common.{◌∷◌}
 use Rattle.std.specs.Prelude.{codes, decimal}
 use Rattle.one_thread.specs.Text.{outcome_words}
 use Rattle.one_thread.proofs.Lines.{behind_two, line_written}
