@@ -1,5 +1,5 @@
 -- The records as the commits in stamp order leave them.
-use Rattle.std.specs.Prelude.{ℕ, ◌+◌, ◌==◌, nat_lt, List, [], ◌∷◌, ◌++◌, length, map, filter, filter_map, flat_map, take, drop, fold, position, slice_get, Option, Some, None, option_map, unwrap_or, Bool, true, false, ◌&&◌, if◌then◌else◌}
+use Rattle.std.specs.Prelude.{ℕ, ◌+◌, nat_lt, List, [], ◌∷◌, length, map, filter, flat_map, take, drop, fold, position, Option, Some, None, option_map, unwrap_or, Bool, true, false, ◌&&◌, if◌then◌else◌}
 use Rattle.sql_base.specs.Keys.{key_lt, key_eq}
 use Rattle.sql_base.specs.Locks.{same_txn}
 use Rattle.key_sequenced.specs.Cells.{Keyed, records}
@@ -12,7 +12,6 @@ use Rattle.sql_base.specs.declared.scripts.Script.{Script}
 use Rattle.sql_base.specs.declared.tables.TableDef.{TableDef}
 use Rattle.sql_base.specs.declared.values.Value.{Value}
 use Rattle.commit_journal.specs.declared.Drawn.{Drawn}
-use Rattle.key_sequenced.specs.declared.Cell.{Cell}
 use Rattle.dp_messages.specs.declared.requests.Ask.{Ask}
 use Rattle.dp_messages.specs.declared.requests.Ask.TheVariants.{EndCommit}
 use Rattle.partition_core.specs.declared.entries.Entry.{Entry}

@@ -1,5 +1,5 @@
 -- Which records are those of a run of the script.
-use Rattle.std.specs.Prelude.{◌≡◌, ◌≤◌, ◌<◌, ℕ, ◌+◌, max, ◌==◌, List, [], ◌∷◌, length, map, filter, filter_map, find, Option, Some, None, option_map, Bool, true, false, ◌↔◌, ◌⊎◌, Contains, reverse}
+use Rattle.std.specs.Prelude.{◌≡◌, ◌≤◌, ◌<◌, ℕ, ◌+◌, max, ◌==◌, List, [], ◌∷◌, length, map, filter, filter_map, find, Option, Some, None, true, ◌↔◌, ◌⊎◌, Contains}
 use Rattle.std.specs.List.{AllZip, AllByRecursion, last_or}
 use Rattle.sql_base.specs.Locks.{same_txn}
 use Rattle.sql_base.specs.declared.outcomes.Outcome.TheVariants.{Committed}
@@ -17,8 +17,7 @@ use Rattle.dp_messages.specs.declared.requests.Ask.{Ask}
 use Rattle.dp_messages.specs.declared.requests.Ask.TheVariants.{EndCommit, EndUndo}
 use Rattle.dp_messages.specs.declared.requests.Request.{Request}
 use Rattle.partition_core.specs.declared.entries.Entry.{Entry}
-use Rattle.requester_fs.specs.declared.logs.Answer.{Answer}
-use Rattle.requester_fs.specs.declared.logs.Answer.TheVariants.{Reply, PathFailed, Stamp}
+use Rattle.requester_fs.specs.declared.logs.Answer.TheVariants.{Reply, Stamp}
 use Rattle.requester_fs.specs.declared.logs.LogEntry.{LogEntry}
 use Rattle.requester_fs.specs.declared.logs.LogEntry.TheVariants.{Asked, Drew}
 use Rattle.run_record.specs.declared.records.RunRecord.{RunRecord}

@@ -1,10 +1,10 @@
 -- How a record's partitions begin, and how its parts are found.
-use Rattle.std.specs.Prelude.{ℕ, ◌+◌, ◌-◌, ◌==◌, List, [], ◌∷◌, ◌++◌, length, map, filter, slice_get, unwrap_or, option_map, Option, Bool, ◌&&◌}
+use Rattle.std.specs.Prelude.{ℕ, ◌+◌, ◌-◌, ◌==◌, List, [], ◌∷◌, ◌++◌, length, map, filter, slice_get, unwrap_or, Bool, ◌&&◌}
 use Rattle.std.specs.List.{range_with_len}
 use Rattle.sql_base.specs.Rows.{key_of}
 use Rattle.partition_map.specs.Map.{part_of}
 use Rattle.partition_core.specs.State.{State, opening}
-use Rattle.one_thread.specs.One.{World, loaded}
+use Rattle.one_thread.specs.One.{loaded}
 use Rattle.sql_base.specs.declared.lock_names.TxnName.{TxnName}
 use Rattle.sql_base.specs.declared.scripts.Limits.{Limits}
 use Rattle.sql_base.specs.declared.scripts.Script.{Script}

@@ -1,14 +1,13 @@
 -- That the committed REPEATABLE transactions and the final tables are those of one thread in stamp order.
-use Rattle.std.specs.Prelude.{◌≡◌, ℕ, ◌+◌, List, [], ◌∷◌, length, map, flat_map, sum, fold, Option, Some, None, option_map, unwrap_or, slice_get, Contains}
+use Rattle.std.specs.Prelude.{◌≡◌, ℕ, ◌+◌, List, [], ◌∷◌, length, map, flat_map, sum, Some, None, option_map, unwrap_or, slice_get, Contains}
 use Rattle.std.specs.List.{AllByRecursion, last_or}
 use Rattle.sql_base.specs.declared.outcomes.Given.{Given}
 use Rattle.sql_base.specs.declared.outcomes.Given.TheVariants.{Rows, Count, Silent}
 use Rattle.sql_base.specs.Rows.{chosen, kinds}
 use Rattle.sql_base.specs.Scripts.{Lies}
-use Rattle.sql_base.specs.Tables.{table_of}
-use Rattle.key_sequenced.specs.Cells.{Keyed, records}
+use Rattle.key_sequenced.specs.Cells.{records}
 use Rattle.partition_core.specs.History.{replay}
-use Rattle.one_thread.specs.One.{World, Ran, Commits, run_work}
+use Rattle.one_thread.specs.One.{Commits, run_work}
 use Rattle.requester_fs.specs.Plans.{Requester, plan_of}
 use Rattle.requester_fs.specs.Follows.{Attempt, Reads, IsPart, projection, requester, works_of}
 use Rattle.run_record.specs.Openings.{openings, log_of}
@@ -17,15 +16,14 @@ use Rattle.run_record.specs.Tiles.{reply_rows, reply_changed, sents_of}
 use Rattle.run_record.specs.Base.{base, base_of, by_part, by_table, changes, laid}
 use Rattle.sql_base.specs.declared.lock_names.Access.{Access}
 use Rattle.sql_base.specs.declared.lock_names.Access.TheVariants.{Browse, Stable, Repeatable}
-use Rattle.sql_base.specs.declared.lock_names.TxnName.{TxnName}
 use Rattle.sql_base.specs.declared.scripts.Script.{Script}
 use Rattle.sql_base.specs.declared.statements.Statement.{Statement}
 use Rattle.sql_base.specs.declared.statements.Statement.TheVariants.{Select, Update, Delete, Insert, LockTable}
 use Rattle.sql_base.specs.declared.values.Value.{Value}
 use Rattle.commit_journal.specs.declared.Drawn.{Drawn}
-use Rattle.requester_fs.specs.declared.logs.Answer.TheVariants.{Reply, PathFailed, Stamp}
+use Rattle.requester_fs.specs.declared.logs.Answer.TheVariants.{Reply}
 use Rattle.requester_fs.specs.declared.logs.LogEntry.{LogEntry}
-use Rattle.requester_fs.specs.declared.logs.LogEntry.TheVariants.{Asked, Drew}
+use Rattle.requester_fs.specs.declared.logs.LogEntry.TheVariants.{Asked}
 use Rattle.run_record.specs.declared.records.RunRecord.{RunRecord}
 
 -- the statements that see the same at any time of their transaction

@@ -3,7 +3,7 @@ use Rattle.std.specs.Prelude.{◌≡◌, ℕ, ◌+◌, List, [], ◌∷◌, ◌+
 use Rattle.one_thread.specs.Text.{run_text}
 use Rattle.one_thread.specs.declared.shown.Shown.{Shown}
 use Rattle.requester_fs.specs.Plans.{Requester}
-use Rattle.requester_fs.specs.Follows.{Attempt, Reads, IsPart, requester, works_of}
+use Rattle.requester_fs.specs.Follows.{Attempt, Reads, IsPart, requester}
 use Rattle.run_record.specs.Openings.{log_of}
 use Rattle.run_record.specs.Serial.{givens_of, final_records}
 use Rattle.sql_base.specs.declared.scripts.Script.{Script}

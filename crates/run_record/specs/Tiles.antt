@@ -1,21 +1,19 @@
 -- That a statement covered its key range once, with just the records that met its predicate then.
-use Rattle.std.specs.Prelude.{◌≡◌, ℕ, ◌+◌, ◌==◌, List, [], ◌∷◌, ◌++◌, length, map, filter, filter_map, count_by, position, slice_get, flat_map, Option, Some, None, option_map, option_and_then, option_to_list, unwrap_or, Bool, true, false, not, ◌&&◌, Result, Ok, Err, Contains, if◌then◌else◌}
-use Rattle.std.specs.List.{AllByRecursion, range_with_len}
+use Rattle.std.specs.Prelude.{◌≡◌, ℕ, ◌+◌, ◌==◌, List, [], ◌∷◌, ◌++◌, length, map, filter, filter_map, count_by, position, slice_get, Option, Some, None, option_map, option_and_then, Bool, true, false, not, ◌&&◌, Contains, if◌then◌else◌}
+use Rattle.std.specs.List.{AllByRecursion}
 use Rattle.sql_base.specs.Keys.{key_le, key_eq}
 use Rattle.sql_base.specs.Rows.{packed, key_of}
-use Rattle.sql_base.specs.Val.{Outcome, filter_val}
+use Rattle.sql_base.specs.Val.{filter_val}
 use Rattle.sql_base.specs.OnRows.{first_failing, updated}
 use Rattle.sql_base.specs.Scripts.{Lies}
 use Rattle.sql_base.specs.Tables.{table_of}
 use Rattle.key_sequenced.specs.Cells.{Keyed, records}
 use Rattle.quantum_core.specs.Verdicts.{is_from}
-use Rattle.partition_core.specs.State.{State}
 use Rattle.partition_core.specs.History.{before}
 use Rattle.one_thread.specs.One.{meets, fault_on, new_row_fault, row_after}
-use Rattle.requester_fs.specs.Plans.{Requester, Sent, Plan, Subsets, Singles, plan_of}
+use Rattle.requester_fs.specs.Plans.{Sent, Plan, Subsets, Singles, plan_of}
 use Rattle.requester_fs.specs.Follows.{Attempt, Reads, IsPart, AreTheirs, projection, requester, works_of}
 use Rattle.run_record.specs.Openings.{openings, history_of, log_of}
-use Rattle.sql_base.specs.declared.expressions.Expr.{Expr}
 use Rattle.sql_base.specs.declared.faults.Fault.{Fault}
 use Rattle.sql_base.specs.declared.key_ranges.KeyRange.{KeyRange}
 use Rattle.sql_base.specs.declared.key_ranges.Start.{Start}
@@ -29,8 +27,7 @@ use Rattle.dp_messages.specs.declared.replies.Reply.{Reply as PartitionReply}
 use Rattle.dp_messages.specs.declared.replies.Reply.TheVariants as reply
 use Rattle.dp_messages.specs.declared.requests.Ask.{Ask}
 use Rattle.dp_messages.specs.declared.requests.Ask.TheVariants as ask
-use Rattle.requester_fs.specs.declared.logs.Answer.{Answer}
-use Rattle.requester_fs.specs.declared.logs.Answer.TheVariants.{Reply, PathFailed, Stamp}
+use Rattle.requester_fs.specs.declared.logs.Answer.TheVariants.{Reply}
 use Rattle.requester_fs.specs.declared.logs.LogEntry.{LogEntry}
 use Rattle.requester_fs.specs.declared.logs.LogEntry.TheVariants.{Asked, Drew}
 use Rattle.run_record.specs.declared.records.RunRecord.{RunRecord}
