@@ -6,3 +6,6 @@ mod requests;
 
 pub use replies::Reply;
 pub use requests::{Ask, Envelope, Request};
+
+#[cfg(test)]
+mod tests;

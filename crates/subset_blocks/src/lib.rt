@@ -88,3 +88,6 @@ pub fn close_of<W: Drop>(blocks: &mut Vec<Numbered<W>>, holder: TxnName)
 {
     blocks.retain(|b| b.block.holder != holder);
 }
+
+#[cfg(test)]
+mod tests;
