@@ -1,4 +1,4 @@
-use Rattle.std.proofs.Common.{ℕ, List, ap, sym, ◌∙◌, subst, All}
+use Rattle.std.proofs.Common.{List, ap, sym, ◌∙◌, subst, All}
 use Rattle.std.proofs.lemmas.Result.{IfOk-weaker}
 use Rattle.sql_base.specs.Keys.{key_eq}
 use Rattle.sql_base.specs.declared.lock_names.Lock.{Lock}
