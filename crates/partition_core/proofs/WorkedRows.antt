@@ -1,20 +1,15 @@
 -- Worked rows of requests at a partition with the records 1 to 5, which hold 10 to 50.
 use Rattle.std.proofs.Common.{◌≡◌, ℕ, ◌*◌, pos, List, [], ◌∷◌, ◌++◌, map, Option, Some, None, refl, lit≤}
-use Rattle.sql_base.specs.Rows.{key_value, packed_value, packed}
-use Rattle.sql_base.specs.Scripts.{Lies}
+use Rattle.sql_base.specs.Rows.{key_value, packed}
 use Rattle.partition_core.specs.State.{State, opening}
-use Rattle.partition_core.specs.declared.lives.Live.{Live}
 use Rattle.partition_core.specs.Step.{step}
-use Rattle.partition_core.specs.History.{replay, IsLegal}
+use Rattle.partition_core.specs.History.{IsLegal}
 use Rattle.sql_base.specs.declared.faults.Cause.TheVariants as cause
-use Rattle.sql_base.specs.declared.key_ranges.KeyRange.{KeyRange}
 use Rattle.sql_base.specs.declared.lock_names.Access.{Access}
 use Rattle.sql_base.specs.declared.lock_names.Access.TheVariants.{Stable, Repeatable}
-use Rattle.sql_base.specs.declared.lock_names.Lock.{Lock}
 use Rattle.sql_base.specs.declared.lock_names.Mode.TheVariants.{S, X}
 use Rattle.sql_base.specs.declared.lock_names.TxnName.{TxnName}
 use Rattle.sql_base.specs.declared.scripts.Limits.{Limits}
-use Rattle.sql_base.specs.declared.tables.Column.{Column}
 use Rattle.sql_base.specs.declared.tables.ColumnKind.TheVariants.{Int}
 use Rattle.sql_base.specs.declared.tables.TableDef.{TableDef}
 use Rattle.sql_base.specs.declared.values.Value.{Value}
@@ -24,7 +19,6 @@ use Rattle.dp_messages.specs.declared.replies.Reply.{Reply}
 use Rattle.dp_messages.specs.declared.replies.Reply.TheVariants.{Ended, Redrive, Locked, Done, Floor, DuplicateKey, NotKnown, StampLow, AfterEnd, WrongKey}
 use Rattle.dp_messages.specs.declared.requests.Ask.{Ask}
 use Rattle.dp_messages.specs.declared.requests.Ask.TheVariants.{BeginRead, Continue, Insert, Prepare, EndCommit, EndUndo}
-use Rattle.dp_messages.specs.declared.requests.Request.{Request}
 use Rattle.partition_core.specs.declared.entries.Entry.{Entry}
 
 abbrev table : TableDef

@@ -1,5 +1,5 @@
 -- A partition that one transaction alone reads, from its first request to its commit.
-use Rattle.std.specs.Prelude.{◌≡◌, ◌≤◌, ◌<◌, ℕ, ◌+◌, List, [], ◌∷◌, length, map, filter, count_by, Option, Some, None, IsSome, IfSome, Bool, true, ◌&&◌}
+use Rattle.std.specs.Prelude.{◌≡◌, ◌≤◌, ◌<◌, ℕ, ◌+◌, List, [], ◌∷◌, length, map, filter, count_by, Some, None, IsSome, IfSome, true, ◌&&◌}
 use Rattle.std.specs.List.{AllByRecursion}
 use Rattle.sql_base.specs.Keys.{key_le}
 use Rattle.sql_base.specs.Rows.{packed}

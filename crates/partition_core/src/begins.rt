@@ -6,13 +6,13 @@ ghost use Rattle.partition_core.specs.Changes.{tells, IsFitting, granule_wanted,
 ghost use Rattle.partition_core.specs.State.{with_live};
 ghost use Rattle.partition_core.specs.Step.{begin, begins, first_quantum, after_first, against_granule, are_columns_here, mode_of};
 ghost use Rattle.subset_blocks.specs.Blocks.{most_blocks};
-ghost use Rattle.sql_base.specs.declared.key_ranges.Start.TheVariants.{At};
+ghost use Rattle.sql_base.specs.declared.key_ranges.Start.TheVariants.{At, After};
 
 use crate::changes::{Change, Judgement, refusal};
 use crate::contents::Contents;
 use dp_messages::Reply;
 use quantum_core::{Doing, QuantumReply, SetWork, conflicting, read_quantum};
-use sql_base::{Access, KeyRange, List, Lock, Mode, NoMemory, Prefix, Start, TxnName};
+use sql_base::{Access, Key, KeyRange, List, Lock, Mode, NoMemory, Prefix, Start, TxnName};
 use std::alloc::Global;
 use subset_blocks::{Block, MOST_BLOCKS, Numbered, free_number};
 
@@ -127,21 +127,15 @@ impl Contents {
                 changed,
             } => {
                 let subset = free_number(&self.blocks);
-                let locked = granule_lock(alloc, &block, granule)?;
-                let start = Start::After(last.copied(alloc)?);
-                Ok(Judgement {
-                    reply: Reply::Redrive {
-                        subset,
-                        last,
-                        cause,
-                        rows,
-                        changed,
-                    },
-                    change: Change::Begins {
-                        granule: locked,
-                        opened: Some(numbered(subset, starting(block, start))),
-                    },
-                })
+                let change = opening(alloc, block, granule, subset, &last)?;
+                let reply = Reply::Redrive {
+                    subset,
+                    last,
+                    cause,
+                    rows,
+                    changed,
+                };
+                Ok(Judgement { reply, change })
             }
             QuantumReply::Locked(lock) => Ok(begun(Reply::Locked(lock))),
             QuantumReply::Failed { key, fault } => Ok(begun(Reply::Failed { key, fault })),
@@ -160,6 +154,25 @@ fn begun(reply: Reply) -> Judgement
             opened: None,
         },
     }
+}
+
+/// The granule is locked, and the block goes on after the key under its number.
+fn opening(
+    alloc: Global,
+    block: Block<SetWork>,
+    granule: &Prefix,
+    subset: u32,
+    last: &Key,
+) -> Result<Change, NoMemory>
+    ensures { IfOk result (λ change. change
+        ≡ Change.Begins (granule_wanted block granule.now block.access) (Some (record { number = subset; block = record block { start = After last.now } }))) }
+{
+    let locked = granule_lock(alloc, &block, granule)?;
+    let start = Start::After(last.copied(alloc)?);
+    Ok(Change::Begins {
+        granule: locked,
+        opened: Some(numbered(subset, starting(block, start))),
+    })
 }
 
 fn numbered(number: u32, block: Block<SetWork>) -> Numbered<SetWork>

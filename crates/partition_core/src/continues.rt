@@ -2,17 +2,19 @@
 ghost use Rattle.std.specs.Prelude.{◌≡◌, IfOk};
 ghost use Rattle.sql_base.specs.Keys.{key_eq};
 ghost use Rattle.subset_blocks.specs.Blocks.{find_block};
-ghost use Rattle.partition_core.specs.Contents.{state_of, parts_of, AreStill, AreReads};
-ghost use Rattle.partition_core.specs.Changes.{tells, IsFitting};
-ghost use Rattle.partition_core.specs.Step.{goes_on, kept_key};
+ghost use Rattle.sql_base.specs.declared.lock_names.TxnName.{TxnName};
+ghost use Rattle.partition_core.specs.Contents.{Parts, state_of, parts_of, AreStill, AreReads};
+ghost use Rattle.partition_core.specs.Changes.{tells, still_handled, IsFitting};
+ghost use Rattle.partition_core.specs.State.{State};
+ghost use Rattle.partition_core.specs.Step.{after_next, goes_on, kept_key};
 
 use crate::changes::{Change, Judgement, refusal};
 use crate::contents::Contents;
 use dp_messages::Reply;
-use quantum_core::{QuantumReply, read_quantum};
+use quantum_core::{QuantumReply, SetWork, read_quantum};
 use sql_base::{Key, NoMemory, Start, TxnName};
 use std::alloc::Global;
-use subset_blocks::find_block;
+use subset_blocks::{Numbered, find_block};
 
 impl Contents {
     /// Goes on with a subset of the transaction just after its last key.
@@ -32,8 +34,7 @@ impl Contents {
         let Some(numbered) = find_block(&self.blocks, subset, t) else {
             return Ok(refusal(Reply::NoSubset));
         };
-        let block = &numbered.block;
-        let kept = kept_key(&block.start);
+        let kept = kept_key(&numbered.block.start);
         if !is_key(kept, last) {
             return Ok(refusal(wrong_key(alloc, kept)?));
         }
@@ -43,39 +44,48 @@ impl Contents {
             &self.table,
             &self.cells,
             &self.locks,
-            block,
+            &numbered.block,
         )?;
-        match reply {
-            QuantumReply::Ended { rows, changed } => Ok(Judgement {
-                reply: Reply::Ended { rows, changed },
-                change: Change::Closes {
-                    subset: numbered.number,
-                },
-            }),
-            QuantumReply::Redrive {
+        after_next(alloc, numbered, reply)
+    }
+}
+
+/// What the reply of a block's next quantum comes to, at whatever partition it was read.
+fn after_next(
+    alloc: Global,
+    numbered: &Numbered<SetWork>,
+    reply: QuantumReply,
+) -> Result<Judgement, NoMemory>
+    ensures told { IfOk result (λ j. (p : State) (t : TxnName) → tells p t j ≡ after_next p numbered.now (still_handled p reply) reply) }
+    ensures fits { IfOk result (λ j. (q : Parts) → IsFitting q j.change) }
+{
+    let subset = numbered.number;
+    match reply {
+        QuantumReply::Ended { rows, changed } => Ok(Judgement {
+            reply: Reply::Ended { rows, changed },
+            change: Change::Closes { subset },
+        }),
+        QuantumReply::Redrive {
+            last,
+            cause,
+            rows,
+            changed,
+        } => {
+            let change = Change::Advances {
+                subset,
+                last: last.copied(alloc)?,
+            };
+            let reply = Reply::Redrive {
+                subset,
                 last,
                 cause,
                 rows,
                 changed,
-            } => {
-                let change = Change::Advances {
-                    subset: numbered.number,
-                    last: last.copied(alloc)?,
-                };
-                Ok(Judgement {
-                    reply: Reply::Redrive {
-                        subset: numbered.number,
-                        last,
-                        cause,
-                        rows,
-                        changed,
-                    },
-                    change,
-                })
-            }
-            QuantumReply::Locked(lock) => Ok(refusal(Reply::Locked(lock))),
-            QuantumReply::Failed { key, fault } => Ok(refusal(Reply::Failed { key, fault })),
+            };
+            Ok(Judgement { reply, change })
         }
+        QuantumReply::Locked(lock) => Ok(refusal(Reply::Locked(lock))),
+        QuantumReply::Failed { key, fault } => Ok(refusal(Reply::Failed { key, fault })),
     }
 }
 

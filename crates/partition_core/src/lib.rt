@@ -17,3 +17,6 @@ mod shapes;
 
 pub use entries::Entry;
 pub use partitions::{Partition, Pick, Served};
+
+#[cfg(test)]
+mod tests;

@@ -1,17 +1,15 @@
 -- A read changes nothing.
-use Rattle.std.proofs.Common.{◌≡◌, ℕ, ◌+◌, List, [], ◌∷◌, ◌++◌, Bool, true, false, Option, Some, None, refl, ap, sym, ◌∙◌, take, map, filter}
-use Rattle.std.specs.Prelude.{count_by}
+use Rattle.std.proofs.Common.{◌≡◌, ℕ, List, false, Option, Some, None, refl}
 use Rattle.sql_base.specs.declared.lock_names.Lock.{Lock}
 use Rattle.sql_base.specs.declared.tables.TableDef.{TableDef}
 use Rattle.sql_base.specs.declared.values.Value.{Value}
 use Rattle.key_sequenced.specs.declared.Cell.{Cell}
 use Rattle.subset_blocks.specs.declared.Block.{Block}
 use Rattle.quantum_core.specs.Quantum.{changes}
-use Rattle.quantum_core.specs.Verdicts.{verdict, on_row, unless_blocked, barrier, on_predicate, on_met}
+use Rattle.quantum_core.specs.Verdicts.{verdict, on_row, unless_blocked, barrier}
 use Rattle.quantum_core.specs.Walk.{IsRead}
 use Rattle.quantum_core.specs.declared.works.SetWork.{SetWork}
 use Rattle.quantum_core.specs.declared.verdicts.Verdict.{Verdict}
-use Rattle.sql_base.specs.Val.{filter_val}
 
 changes-unless_blocked : (lock : Option Lock) (v : Verdict) → changes v ≡ false → changes (unless_blocked lock v) ≡ false
 changes-unless_blocked (Some lock) v h = refl

@@ -17,13 +17,12 @@ use Rattle.sql_base.specs.declared.tables.TableDef.{TableDef}
 use Rattle.key_sequenced.specs.declared.Cell.{Cell}
 use Rattle.subset_blocks.specs.declared.Block.{Block}
 use Rattle.quantum_core.specs.Verdicts.{Judged, judged, is_candidate, verdict}
-use Rattle.quantum_core.specs.Quantum.{quantum, may_handle, reply_to, stopped, cause_of, cause_at, last_key, rows_of, row_of, lets_on, changes, answer}
+use Rattle.quantum_core.specs.Quantum.{quantum, may_handle, reply_to, stopped, cause_of, cause_at, last_key, rows_of, row_of, lets_on, changes}
 use Rattle.quantum_core.specs.Walk.{IsRead, room_for, given_rows, halted}
 use Rattle.quantum_core.specs.declared.works.SetWork.{SetWork}
 use Rattle.quantum_core.specs.declared.verdicts.Verdict.{Verdict}
 use Rattle.quantum_core.specs.declared.verdicts.Verdict.TheVariants.{Blocked, Faulty, PassedOver, Selected}
 use Rattle.quantum_core.specs.declared.verdicts.Effect.TheVariants.{Gives, Becomes, Goes}
-use Rattle.quantum_core.specs.declared.replies.QuantumReply.{QuantumReply}
 use Rattle.quantum_core.specs.declared.replies.QuantumReply.TheVariants.{Ended, Redrive}
 use Rattle.quantum_core.proofs.Greatest.{stops, ends}
 use Rattle.quantum_core.proofs.ReadOnly.{changes-verdict}

@@ -1,5 +1,5 @@
 -- Worked rows of one quantum over the records 1 to 5, which hold 10 to 50.
-use Rattle.std.proofs.Common.{◌≡◌, ℕ, ◌*◌, pos, List, [], ◌∷◌, ◌++◌, map, Option, Some, None, refl}
+use Rattle.std.proofs.Common.{◌≡◌, ℕ, ◌*◌, pos, List, [], ◌∷◌, ◌++◌, Some, None, refl}
 use Rattle.sql_base.specs.Rows.{key_value, packed_value}
 use Rattle.quantum_core.specs.Quantum.{quantum, reply_to}
 use Rattle.quantum_core.specs.Verdicts.{Judged}
@@ -10,10 +10,9 @@ use Rattle.sql_base.specs.declared.key_ranges.Start.TheVariants.{At, After}
 use Rattle.sql_base.specs.declared.lock_names.Access.{Access}
 use Rattle.sql_base.specs.declared.lock_names.Access.TheVariants.{Browse, Stable, Repeatable}
 use Rattle.sql_base.specs.declared.lock_names.Lock.{Lock}
-use Rattle.sql_base.specs.declared.lock_names.Mode.TheVariants.{S, X}
+use Rattle.sql_base.specs.declared.lock_names.Mode.TheVariants.{X}
 use Rattle.sql_base.specs.declared.lock_names.TxnName.{TxnName}
 use Rattle.sql_base.specs.declared.scripts.Limits.{Limits}
-use Rattle.sql_base.specs.declared.tables.Column.{Column}
 use Rattle.sql_base.specs.declared.tables.ColumnKind.TheVariants.{Int}
 use Rattle.sql_base.specs.declared.tables.TableDef.{TableDef}
 use Rattle.sql_base.specs.declared.values.Value.{Value}
@@ -22,7 +21,7 @@ use Rattle.key_sequenced.specs.declared.Cell.{Cell}
 use Rattle.subset_blocks.specs.declared.Block.{Block}
 use Rattle.quantum_core.specs.declared.replies.QuantumReply.TheVariants.{Ended, Redrive, Locked, Failed}
 use Rattle.quantum_core.specs.declared.verdicts.Effect.TheVariants.{Gives}
-use Rattle.quantum_core.specs.declared.verdicts.Verdict.TheVariants.{Faulty, PassedOver, Selected}
+use Rattle.quantum_core.specs.declared.verdicts.Verdict.TheVariants.{Faulty, Selected}
 use Rattle.quantum_core.specs.declared.works.Doing.{Doing}
 use Rattle.quantum_core.specs.declared.works.Doing.TheVariants.{Read, Delete}
 use Rattle.quantum_core.specs.declared.works.SetWork.{SetWork}

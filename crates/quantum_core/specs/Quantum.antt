@@ -1,5 +1,5 @@
 -- One quantum of a block.
-use Rattle.std.specs.Prelude.{ℕ, zero, suc, ◌+◌, ◌==◌, nat_le, min, List, [], ◌∷◌, length, take, drop, map, find, filter_map, sum_by, count_by, Option, Some, None, Bool, true, false, ◌&&◌, if◌then◌else◌}
+use Rattle.std.specs.Prelude.{ℕ, zero, suc, ◌+◌, ◌==◌, nat_le, min, List, [], ◌∷◌, length, take, drop, map, filter_map, sum_by, count_by, Option, Some, None, Bool, true, false, ◌&&◌, if◌then◌else◌}
 use Rattle.std.specs.List.{list_all}
 use Rattle.sql_base.specs.Keys.{key_eq}
 use Rattle.sql_base.specs.Locks.{granted}
@@ -18,7 +18,6 @@ use Rattle.quantum_core.specs.Verdicts.{Judged, judged}
 use Rattle.quantum_core.specs.declared.works.SetWork.{SetWork}
 use Rattle.quantum_core.specs.declared.replies.QuantumReply.{QuantumReply}
 use Rattle.quantum_core.specs.declared.replies.QuantumReply.TheVariants.{Ended, Redrive, Locked, Failed}
-use Rattle.quantum_core.specs.declared.verdicts.Effect.{Effect}
 use Rattle.quantum_core.specs.declared.verdicts.Effect.TheVariants.{Gives, Becomes, Goes}
 use Rattle.quantum_core.specs.declared.verdicts.Verdict.{Verdict}
 use Rattle.quantum_core.specs.declared.verdicts.Verdict.TheVariants.{Blocked, Faulty, PassedOver, Selected}

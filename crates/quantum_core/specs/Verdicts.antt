@@ -2,7 +2,7 @@
 use Rattle.std.specs.Prelude.{ℕ, List, filter, map, Option, Some, None, Bool, true, false, not, ◌&&◌, Result, Ok, Err}
 use Rattle.sql_base.specs.Keys.{key_lt, key_le}
 use Rattle.sql_base.specs.Rows.{packed}
-use Rattle.sql_base.specs.Val.{Outcome, filter_val, IsNumber, IsText, IsTruth, IsNothing}
+use Rattle.sql_base.specs.Val.{Outcome, filter_val, IsTruth}
 use Rattle.sql_base.specs.OnRows.{fault_of, updated, first_failing}
 use Rattle.sql_base.specs.Locks.{first_conflict, same_txn}
 use Rattle.sql_base.specs.declared.faults.EvalFault.{EvalFault}
@@ -10,11 +10,10 @@ use Rattle.sql_base.specs.declared.faults.Fault.{Fault}
 use Rattle.sql_base.specs.declared.key_ranges.Start.{Start}
 use Rattle.sql_base.specs.declared.key_ranges.Start.TheVariants.{At, After}
 use Rattle.sql_base.specs.declared.lock_names.Access.{Access}
-use Rattle.sql_base.specs.declared.lock_names.Access.TheVariants.{Browse, Stable, Repeatable}
+use Rattle.sql_base.specs.declared.lock_names.Access.TheVariants.{Browse}
 use Rattle.sql_base.specs.declared.lock_names.Lock.{Lock}
 use Rattle.sql_base.specs.declared.lock_names.Mode.TheVariants as mode
 use Rattle.sql_base.specs.declared.lock_names.TxnName.{TxnName}
-use Rattle.sql_base.specs.declared.statements.Assign.{Assign}
 use Rattle.sql_base.specs.declared.tables.TableDef.{TableDef}
 use Rattle.sql_base.specs.declared.values.Value.{Value}
 use Rattle.key_sequenced.specs.declared.Cell.{Cell}

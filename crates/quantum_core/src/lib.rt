@@ -14,3 +14,6 @@ pub use replies::QuantumReply;
 pub use verdicts::{Effect, Verdict};
 pub use walks::read_quantum;
 pub use works::{Doing, SetWork};
+
+#[cfg(test)]
+mod tests;
