@@ -7,3 +7,6 @@ mod sessions;
 
 pub use logs::{Action, Answer, LogEntry};
 pub use sessions::Session;
+
+#[cfg(test)]
+mod tests;

@@ -1,10 +1,12 @@
 ghost use Rattle.std.specs.Prelude.{◌≡◌, IfOk, option_map};
-ghost use Rattle.statement_reader.specs.Reading.{seen, select_step};
+ghost use Rattle.statement_reader.specs.declared.places.Place.TheVariants as at;
+ghost use Rattle.statement_reader.specs.declared.places.SelectPlace.TheVariants as names;
+ghost use Rattle.statement_reader.specs.Reading.{seen, behind, select_named, select_step};
 
 use crate::fixed_words::{Fixed, name_of};
 use crate::places::{Place, SelectPlace, State};
-use crate::raw::{Raw, RawSelect};
-use sql_base::NoMemory;
+use crate::raw::{Raw, RawHead, RawLoad, RawSelect};
+use sql_base::{Name, NoMemory};
 use statement_words::{Keyword, Sign, Word};
 use std::alloc::Global;
 
@@ -22,35 +24,48 @@ const BEHIND_TABLE: [Fixed; 7] = [
     Fixed::Sign(Sign::Semicolon),
 ];
 
-/// A word in the SELECT, at a name.
-pub fn select_step(
-    alloc: Global,
-    place: SelectPlace,
-    word: &Word,
-) -> Result<Option<State>, NoMemory>
-    ensures { IfOk result (λ next. option_map seen next ≡ select_step place word.now) }
+/// In the SELECT, once these words have come.
+fn behind(awaited: &'static [Fixed], place: SelectPlace) -> State
+    ensures { seen result ≡ behind awaited.now (at.Select place) }
 {
-    let Some(found) = name_of(alloc, word)? else {
-        return Ok(None);
-    };
-    Ok(Some(match place {
-        SelectPlace::First { head, load } => State {
-            awaited: &BEHIND_FIRST,
-            place: Place::Select(SelectPlace::Second {
+    State {
+        awaited,
+        place: Place::Select(place),
+    }
+}
+
+/// At the end, once the SELECT's last words have come.
+fn behind_table(head: RawHead, load: Option<RawLoad>, select: RawSelect) -> State
+    ensures { seen result ≡ select_named (names.Table head load select.first select.second) select.table }
+{
+    State {
+        awaited: &BEHIND_TABLE,
+        place: Place::End(Raw { head, load, select }),
+    }
+}
+
+/// The name at a place of the SELECT.
+fn select_named(place: SelectPlace, found: Name) -> State
+    ensures { seen result ≡ select_named place found }
+{
+    match place {
+        SelectPlace::First { head, load } => {
+            let second = SelectPlace::Second {
                 head,
                 load,
                 first: found,
-            }),
-        },
-        SelectPlace::Second { head, load, first } => State {
-            awaited: &BEHIND_SECOND,
-            place: Place::Select(SelectPlace::Table {
+            };
+            behind(&BEHIND_FIRST, second)
+        }
+        SelectPlace::Second { head, load, first } => {
+            let table = SelectPlace::Table {
                 head,
                 load,
                 first,
                 second: found,
-            }),
-        },
+            };
+            behind(&BEHIND_SECOND, table)
+        }
         SelectPlace::Table {
             head,
             load,
@@ -62,10 +77,21 @@ pub fn select_step(
                 second,
                 table: found,
             };
-            State {
-                awaited: &BEHIND_TABLE,
-                place: Place::End(Raw { head, load, select }),
-            }
+            behind_table(head, load, select)
         }
-    }))
+    }
+}
+
+/// A word in the SELECT, at a name.
+pub fn select_step(
+    alloc: Global,
+    place: SelectPlace,
+    word: &Word,
+) -> Result<Option<State>, NoMemory>
+    ensures { IfOk result (λ next. option_map seen next ≡ select_step place word.now) }
+{
+    match name_of(alloc, word)? {
+        Some(found) => Ok(Some(select_named(place, found))),
+        None => Ok(None),
+    }
 }
