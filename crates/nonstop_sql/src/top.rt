@@ -15,8 +15,8 @@ use outside::{Collector, Gate, Sink, Source, Wire};
 use run_record::{RunRecord, text};
 use sql_base::{NoMemory, Script};
 use statement_reader::{ReadFault, read_script};
-use step_world::drive;
 use std::alloc::Global;
+use step_world::drive;
 
 /// How many wires a run is handed, one for each session that a script may have.
 pub const WIRES: usize = 8;
@@ -34,7 +34,9 @@ pub fn run<S: Source, K: Sink, G: Gate>(
     collectors: &mut Vec<Box<dyn Collector>>,
 ) -> Outcome
     ensures refused { (result.status ≡ 2) ↔ ((IsSteps words.now → ⊥) ⊎ (vec_len wires < WIRES)) }
+    ensures untouched { result.status ≡ 2 → (source.new ≡ source.old) × (sink.new ≡ sink.old) }
     ensures unread { result.status ≡ 2 → Keeps (S.left source.old) (S.left source.new) × Keeps (K.taken sink.old) (K.taken sink.new) }
+    ensures unseen { collectors.new ≡ collectors.old }
     ensures ran { IsSteps words.now → WIRES ≤ vec_len wires →
         StepsEnds (S.left source.old) (S.left source.new) (S.faults source.old) (S.faults source.new)
         (K.taken sink.old) (K.taken sink.new) (K.faults sink.old) (K.faults sink.new) result }
@@ -55,10 +57,11 @@ pub fn run_alone<S: Source, K: Sink>(
     source: &mut S,
     sink: &mut K,
     wires: Vec<Box<dyn Wire + Send>>,
-    _collectors: &mut Vec<Box<dyn Collector>>,
+    collectors: &mut Vec<Box<dyn Collector>>,
 ) -> Outcome
     requires { WIRES ≤ vec_len wires }
-    ensures { StepsEnds (S.left source.old) (S.left source.new) (S.faults source.old) (S.faults source.new)
+    ensures unseen { collectors.new ≡ collectors.old }
+    ensures ran { StepsEnds (S.left source.old) (S.left source.new) (S.faults source.old) (S.faults source.new)
         (K.taken sink.old) (K.taken sink.new) (K.faults sink.old) (K.faults sink.new) result }
 {
     match command {
