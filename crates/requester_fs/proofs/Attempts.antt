@@ -1,22 +1,21 @@
 -- The grammar of logs where there is one scan of one partition.
-use Rattle.std.proofs.Common.{◌≡◌, ℕ, zero, suc, ◌+◌, List, [], ◌∷◌, ◌++◌, Option, Some, None, Bool, true, false, cond, refl, ap, sym, ◌∙◌, subst, inl, inr, ◌||◌, max, arith, eq-eqb}
-use Rattle.std.specs.Prelude.{◌⊎◌, filter, flat_map, ◌==◌}
-use Rattle.std.specs.List.{list_any, range_with_len}
-use Rattle.std.proofs.lemmas.List.{append-nil}
+use Rattle.std.proofs.Common.{◌≡◌, ℕ, zero, suc, List, [], ◌∷◌, ◌++◌, Option, Some, None, Bool, true, false, refl, ap, sym, ◌∙◌, subst, inl, inr, ◌||◌, arith, eq-eqb}
+use Rattle.std.specs.Prelude.{◌⊎◌}
+use Rattle.std.specs.List.{list_any}
 use Rattle.sql_base.specs.declared.outcomes.Abort.{Abort}
-use Rattle.sql_base.specs.declared.outcomes.Abort.TheVariants.{LockedOut, PathLost, Faulted, Duplicate}
+use Rattle.sql_base.specs.declared.outcomes.Abort.TheVariants.{PathLost}
 use Rattle.sql_base.specs.declared.outcomes.Outcome.{Outcome}
-use Rattle.sql_base.specs.declared.outcomes.Outcome.TheVariants.{Committed, RolledBack, Aborted}
+use Rattle.sql_base.specs.declared.outcomes.Outcome.TheVariants.{Committed, Aborted}
 use Rattle.sql_base.specs.Scripts.{parts_of}
 use Rattle.dp_messages.specs.declared.replies.Reply.TheVariants as reply
 use Rattle.dp_messages.specs.declared.requests.Ask.{Ask}
-use Rattle.dp_messages.specs.declared.requests.Ask.TheVariants.{Continue, Prepare, EndCommit, EndUndo}
+use Rattle.dp_messages.specs.declared.requests.Ask.TheVariants.{Prepare, EndCommit, EndUndo}
 use Rattle.dp_messages.specs.declared.requests.Request.{Request}
 use Rattle.requester_fs.specs.declared.logs.Answer.{Answer}
 use Rattle.requester_fs.specs.declared.logs.Answer.TheVariants.{Reply, PathFailed, Stamp}
 use Rattle.requester_fs.specs.declared.logs.LogEntry.{LogEntry}
 use Rattle.requester_fs.specs.declared.logs.LogEntry.TheVariants.{Asked, Drew}
-use Rattle.requester_fs.specs.Follows.{Attempt, AreRows, AreEnds, ArePrepares, IsEnding, IsAttempt, IsInLine, InLineBy, IsList, OneAfterOther, InTurn, joined, touched, greatest_of}
+use Rattle.requester_fs.specs.Follows.{Attempt, AreRows, AreEnds, ArePrepares, IsEnding, IsAttempt, IsInLine, InLineBy, IsList, OneAfterOther, joined, touched, greatest_of}
 use Rattle.requester_fs.specs.Places.{begin}
 use Rattle.requester_fs.specs.Plans.{Requester, Subsets, plan_of}
 use Rattle.requester_fs.specs.Rows.{IsAsked, IsRow, is_for}

@@ -1,6 +1,6 @@
 -- Every log of the grammar leads a session to its end.
-use Rattle.std.proofs.Common.{◌≡◌, ℕ, zero, suc, ◌+◌, List, [], ◌∷◌, ◌++◌, Option, Some, None, Bool, true, false, refl, ap, sym, ◌∙◌, subst, inl, inr, length, append_assoc}
-use Rattle.std.specs.Prelude.{◌⊎◌, flat_map, IsSome}
+use Rattle.std.proofs.Common.{◌≡◌, ℕ, zero, suc, ◌+◌, List, [], ◌∷◌, ◌++◌, Option, Some, None, Bool, true, false, refl, ap, sym, ◌∙◌, subst, inl, inr}
+use Rattle.std.specs.Prelude.{◌⊎◌, flat_map}
 use Rattle.std.proofs.lemmas.List.{append-nil}
 use Rattle.sql_base.specs.declared.outcomes.Abort.{Abort}
 use Rattle.sql_base.specs.declared.outcomes.Abort.TheVariants.{LockedOut, PathLost, Faulted, Duplicate}
@@ -18,15 +18,14 @@ use Rattle.requester_fs.specs.declared.logs.LogEntry.TheVariants.{Asked, Drew}
 use Rattle.requester_fs.specs.declared.places.Place.{Place}
 use Rattle.requester_fs.specs.declared.places.Stage.{Stage}
 use Rattle.requester_fs.specs.declared.places.Stage.TheVariants.{Beginning, Continuing, Preparing, Drawing, Committing, Undoing, Finished}
-use Rattle.requester_fs.specs.declared.places.Task.{Task}
-use Rattle.requester_fs.specs.declared.places.Task.TheVariants.{Send, Commit, Nothing}
-use Rattle.requester_fs.specs.Follows.{Attempt, AfterRow, AreRows, AreTries, AreAttempts, IsInLine, IsAttempt, joined, entries_of}
+use Rattle.requester_fs.specs.declared.places.Task.TheVariants.{Send}
+use Rattle.requester_fs.specs.Follows.{Attempt, AfterRow, AreRows, AreTries, IsInLine, joined, entries_of}
 use Rattle.requester_fs.specs.Leading.{Leads, Does, place_behind}
 use Rattle.requester_fs.specs.Places.{begin, task_in, after, after_row, after_undo, restarted}
 use Rattle.requester_fs.specs.Plans.{Requester, Subsets, plan_of}
-use Rattle.requester_fs.specs.Rows.{IsAsked, IsRow, IsSent, is_locked, failure}
+use Rattle.requester_fs.specs.Rows.{IsAsked, IsRow, IsSent, is_locked}
 use Rattle.requester_fs.specs.Thin.{scan}
-use Rattle.requester_fs.proofs.Attempts.{asking, Scans, EndsOne, CommitsOne, LosesOne, UndoesOne, scans_of}
+use Rattle.requester_fs.proofs.Attempts.{asking, Scans, EndsOne, scans_of}
 use Rattle.requester_fs.proofs.Lists.{Leads-append, joined-one}
 use Rattle.requester_fs.proofs.ThinPlans.{select, first_sent}
 

@@ -1,15 +1,12 @@
 -- Logs joined end to end, and lists of one thing.
-use Rattle.std.proofs.Common.{◌≡◌, ℕ, ◌+◌, List, [], ◌∷◌, ◌++◌, Option, Some, None, refl, ap, sym, ◌∙◌, subst, inl, inr, append_assoc}
-use Rattle.std.specs.Prelude.{IsSome, ◌⊎◌}
+use Rattle.std.proofs.Common.{◌≡◌, ℕ, ◌+◌, List, [], ◌∷◌, ◌++◌, Option, Some, None, refl, sym, subst, inl, inr}
 use Rattle.std.proofs.lemmas.List.{append-nil}
 use Rattle.sql_base.specs.declared.outcomes.Abort.{Abort}
-use Rattle.sql_base.specs.declared.lock_names.TxnName.{TxnName}
 use Rattle.requester_fs.specs.declared.logs.LogEntry.{LogEntry}
 use Rattle.requester_fs.specs.declared.logs.LogEntry.TheVariants.{Asked, Drew}
 use Rattle.requester_fs.specs.declared.places.Place.{Place}
 use Rattle.requester_fs.specs.Follows.{CountSyncs, InTurn, joined}
-use Rattle.requester_fs.specs.Leading.{Leads, Does, place_behind, sync_behind}
-use Rattle.requester_fs.specs.Places.{task_at}
+use Rattle.requester_fs.specs.Leading.{Leads, place_behind, sync_behind}
 
 module _ (patience number : ℕ) where
   -- a log leads as far as its parts lead one after the other

@@ -1,9 +1,9 @@
 -- What leads a session to its end is a log of the grammar.
 use Rattle.std.proofs.Common.{◌≡◌, ℕ, zero, suc, ◌+◌, List, [], ◌∷◌, ◌++◌, Option, Some, None, Bool, true, false, refl, ap, sym, ◌∙◌, subst, inl, inr, append_assoc}
-use Rattle.std.specs.Prelude.{◌⊎◌, flat_map}
+use Rattle.std.specs.Prelude.{flat_map}
 use Rattle.std.proofs.lemmas.List.{append-nil}
 use Rattle.sql_base.specs.declared.outcomes.Abort.{Abort}
-use Rattle.sql_base.specs.declared.outcomes.Abort.TheVariants.{LockedOut, PathLost, Faulted, Duplicate}
+use Rattle.sql_base.specs.declared.outcomes.Abort.TheVariants.{LockedOut, PathLost, Faulted}
 use Rattle.sql_base.specs.declared.outcomes.Outcome.{Outcome}
 use Rattle.sql_base.specs.declared.outcomes.Outcome.TheVariants.{Committed, RolledBack, Aborted}
 use Rattle.sql_base.specs.Scripts.{parts_of}
@@ -21,12 +21,12 @@ use Rattle.requester_fs.specs.declared.logs.LogEntry.TheVariants.{Asked, Drew}
 use Rattle.requester_fs.specs.declared.places.Place.{Place}
 use Rattle.requester_fs.specs.declared.places.Stage.{Stage}
 use Rattle.requester_fs.specs.declared.places.Stage.TheVariants.{Beginning, Continuing, Preparing, Drawing, Committing, Undoing, Finished}
-use Rattle.requester_fs.specs.declared.places.Task.TheVariants.{Send, Commit, Nothing}
+use Rattle.requester_fs.specs.declared.places.Task.TheVariants.{Send}
 use Rattle.requester_fs.specs.Follows.{Attempt, AfterRow, AreRows, AreTries, IsAttempt, IsInLine, joined, entries_of}
 use Rattle.requester_fs.specs.Leading.{Leads, Does, place_behind}
-use Rattle.requester_fs.specs.Places.{begin, task_in, after, after_in, after_row, after_prepare, after_undo}
+use Rattle.requester_fs.specs.Places.{begin, task_in, after, after_row, after_prepare, after_undo}
 use Rattle.requester_fs.specs.Plans.{Requester, Subsets, plan_of}
-use Rattle.requester_fs.specs.Rows.{IsAsked, IsRow, IsSent, is_locked, is_done, is_end, fits, fits_subset}
+use Rattle.requester_fs.specs.Rows.{IsAsked, IsRow, IsSent, is_done, is_end, fits, fits_subset}
 use Rattle.requester_fs.specs.Thin.{scan}
 use Rattle.requester_fs.proofs.Attempts.{asking, Scans, EndsOne, attempt, attempt_of}
 use Rattle.requester_fs.proofs.Complete.{place, IsReading, ask_of, is_locked_out}

@@ -1,18 +1,17 @@
 -- A session that stands at a place is one of its script, and stays so with each answer.
-use Rattle.std.proofs.Common.{◌≡◌, ◌≤◌, ℕ, zero, suc, ◌+◌, List, [], ◌∷◌, ◌++◌, Bool, true, false, refl, ap, sym, ◌∙◌, subst, arith, append_assoc}
+use Rattle.std.proofs.Common.{◌≡◌, ◌≤◌, ℕ, zero, suc, ◌+◌, List, [], ◌∷◌, ◌++◌, Bool, true, false, refl, ap, sym, ◌∙◌, subst, arith}
 use Rattle.std.specs.Prelude.{◌↔◌, flat_map}
 use Rattle.std.proofs.lemmas.List.{append-nil}
 use Rattle.sql_base.specs.Scripts.{AreLimits, parts_of}
 use Rattle.sql_base.specs.declared.lock_names.TxnName.{TxnName}
 use Rattle.sql_base.specs.declared.scripts.Limits.{Limits}
 use Rattle.sql_base.specs.declared.scripts.Script.{Script}
-use Rattle.sql_base.specs.declared.scripts.Work.{Work}
 use Rattle.dp_messages.specs.declared.replies.Reply.{Reply as PartitionReply}
 use Rattle.dp_messages.specs.declared.replies.Reply.TheVariants as reply
 use Rattle.dp_messages.specs.declared.requests.Ask.{Ask}
 use Rattle.dp_messages.specs.declared.requests.Ask.TheVariants.{Continue, Prepare, EndCommit, EndUndo}
 use Rattle.requester_fs.specs.declared.logs.Answer.{Answer}
-use Rattle.requester_fs.specs.declared.logs.Answer.TheVariants.{Reply, PathFailed, Stamp}
+use Rattle.requester_fs.specs.declared.logs.Answer.TheVariants.{Reply, Stamp}
 use Rattle.requester_fs.specs.declared.logs.LogEntry.{LogEntry}
 use Rattle.requester_fs.specs.declared.logs.LogEntry.TheVariants.{Asked, Drew}
 use Rattle.requester_fs.specs.declared.places.Place.{Place}
@@ -20,17 +19,17 @@ use Rattle.requester_fs.specs.declared.places.Stage.{Stage}
 use Rattle.requester_fs.specs.declared.places.Stage.TheVariants.{Beginning, Continuing, Preparing, Drawing, Committing, Undoing, Finished}
 use Rattle.requester_fs.specs.declared.places.Task.{Task}
 use Rattle.requester_fs.specs.declared.places.Task.TheVariants.{Send, Commit, Nothing}
-use Rattle.requester_fs.specs.Follows.{Attempt, AreAttempts, AreTries, CountSyncs, FollowsInLine, IsInLine, Reads, entries_of, in_line, requester, works_of}
+use Rattle.requester_fs.specs.Follows.{CountSyncs, FollowsInLine, IsInLine, Reads, entries_of, in_line, requester, works_of}
 use Rattle.requester_fs.specs.Leading.{Leads, Does, StandsAt, next_of, place_behind, sync_after, sync_behind}
 use Rattle.requester_fs.specs.Places.{begin, task_in, task_at, first_place, after, after_in, after_row, after_reply, after_prepare, after_draw, after_undo, repeated, restarted}
 use Rattle.requester_fs.specs.Plans.{Requester, Subsets, plan_of}
 use Rattle.requester_fs.specs.Rows.{IsSent}
-use Rattle.requester_fs.specs.Sessions.{Next, Sends, Draws, Ends, MayCome, entries_kept, Working, Begins, IsWithin, IsSessionOf}
+use Rattle.requester_fs.specs.Sessions.{Ends, MayCome, entries_kept, Begins, IsWithin, IsSessionOf}
 use Rattle.requester_fs.specs.Thin.{IsThin, scan}
 use Rattle.requester_fs.proofs.Attempts.{asking}
 use Rattle.requester_fs.proofs.Complete.{place, tries_lead}
 use Rattle.requester_fs.proofs.Lists.{Leads-append, Leads-rest, CountSyncs-append, sync_behind-append}
-use Rattle.requester_fs.proofs.Sound.{Tries, sound, tries_of}
+use Rattle.requester_fs.proofs.Sound.{sound, tries_of}
 use Rattle.requester_fs.proofs.ThinPlans.{select, first_sent, thin-plan, thin-parts}
 
 -- a session can always go on to its end

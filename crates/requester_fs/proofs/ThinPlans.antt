@@ -1,5 +1,5 @@
 -- What a thin script's scan asks: one subset of the one partition, with all keys.
-use Rattle.std.proofs.Common.{◌≡◌, ℕ, List, [], ◌∷◌, None, refl}
+use Rattle.std.proofs.Common.{◌≡◌, [], ◌∷◌, None, refl}
 use Rattle.sql_base.specs.Scripts.{parts_of}
 use Rattle.sql_base.specs.declared.lock_names.Access.TheVariants.{Repeatable}
 use Rattle.sql_base.specs.declared.statements.Statement.{Statement}

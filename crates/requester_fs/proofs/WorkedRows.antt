@@ -1,15 +1,14 @@
 -- Worked rows of logs.
-use Rattle.std.proofs.Common.{◌≡◌, ℕ, ◌+◌, pos, List, [], ◌∷◌, ◌++◌, Option, Some, None, true, false, refl, ap, sym, subst, inl, inr, lit≤}
+use Rattle.std.proofs.Common.{◌≡◌, ℕ, pos, List, [], ◌∷◌, Option, Some, None, true, refl, ap, sym, subst, inl, inr, lit≤}
 use Rattle.std.specs.Prelude.{codes}
-use Rattle.sql_base.proofs.Trees.{fold-Number, fold-Column, fold-Arith, fold-Compare}
+use Rattle.sql_base.proofs.Trees.{fold-Number, fold-Column, fold-Compare}
 use Rattle.sql_base.specs.Codes.{code_of, sets_code}
 use Rattle.sql_base.specs.Rows.{key_value}
 use Rattle.range_finder.specs.Range.{Shape, ALiteral, AColumn, shape_step, shape_of_compare, range}
-use Rattle.requester_fs.specs.Plans.{Requester, Sent, Plan, Subsets, plan_of, begins_in}
-use Rattle.requester_fs.specs.Rows.{IsAsked, IsRow, IsSent}
-use Rattle.requester_fs.specs.Follows.{Attempt, IsInLine, InLineBy, IsList, IsAttempt, Reads, FollowsInLine, AreEnds}
+use Rattle.requester_fs.specs.Plans.{Requester, Plan, Subsets, plan_of, begins_in}
+use Rattle.requester_fs.specs.Rows.{IsAsked, IsSent}
+use Rattle.requester_fs.specs.Follows.{Attempt, IsInLine, InLineBy, FollowsInLine}
 use Rattle.sql_base.specs.declared.expressions.ArithOp.TheVariants.{Add}
-use Rattle.sql_base.specs.declared.expressions.CompareOp.{CompareOp}
 use Rattle.sql_base.specs.declared.expressions.CompareOp.TheVariants.{Eq}
 use Rattle.sql_base.specs.declared.expressions.Expr.{Expr, fold-Expr}
 use Rattle.sql_base.specs.declared.expressions.Expr.TheVariants as expr
@@ -17,13 +16,12 @@ use Rattle.sql_base.specs.declared.key_ranges.KeyRange.{KeyRange}
 use Rattle.sql_base.specs.declared.lock_names.Access.TheVariants.{Repeatable}
 use Rattle.sql_base.specs.declared.lock_names.Lock.{Lock}
 use Rattle.sql_base.specs.declared.lock_names.Mode.TheVariants.{X}
-use Rattle.sql_base.specs.declared.outcomes.Abort.{Abort}
 use Rattle.sql_base.specs.declared.outcomes.Abort.TheVariants.{LockedOut}
-use Rattle.sql_base.specs.declared.outcomes.Outcome.TheVariants.{Aborted, Committed}
+use Rattle.sql_base.specs.declared.outcomes.Outcome.TheVariants.{Aborted}
 use Rattle.sql_base.specs.declared.scripts.Work.{Work}
 use Rattle.sql_base.specs.declared.statements.Assign.{Assign}
 use Rattle.sql_base.specs.declared.statements.Statement.{Statement}
-use Rattle.sql_base.specs.declared.statements.Statement.TheVariants.{Update, Select}
+use Rattle.sql_base.specs.declared.statements.Statement.TheVariants.{Update}
 use Rattle.sql_base.specs.declared.tables.ColumnKind.TheVariants.{Int}
 use Rattle.sql_base.specs.declared.tables.TableDef.{TableDef}
 use Rattle.sql_base.specs.declared.values.Value.TheVariants as value
@@ -31,9 +29,9 @@ use Rattle.dp_messages.specs.declared.replies.Reply.TheVariants as reply
 use Rattle.dp_messages.specs.declared.requests.Ask.{Ask}
 use Rattle.dp_messages.specs.declared.requests.Ask.TheVariants as ask
 use Rattle.requester_fs.specs.declared.logs.Answer.{Answer}
-use Rattle.requester_fs.specs.declared.logs.Answer.TheVariants.{Reply, Stamp}
+use Rattle.requester_fs.specs.declared.logs.Answer.TheVariants.{Reply}
 use Rattle.requester_fs.specs.declared.logs.LogEntry.{LogEntry}
-use Rattle.requester_fs.specs.declared.logs.LogEntry.TheVariants.{Asked, Drew}
+use Rattle.requester_fs.specs.declared.logs.LogEntry.TheVariants.{Asked}
 
 -- a table of two numbers in two partitions, cut at the key 1000, and PATIENCE 1
 abbrev table : TableDef

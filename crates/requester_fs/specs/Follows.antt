@@ -1,20 +1,18 @@
 -- The logs that a session may have: a grammar on the list of entries.
 -- Whatever may fail is described with its end: none where it is whole, else how its last row failed.
-use Rattle.std.specs.Prelude.{◌≡◌, ◌≢◌, ◌≤◌, ℕ, zero, suc, ◌+◌, List, [], ◌∷◌, ◌++◌, length, map, filter, flat_map, take, fold, max, Option, Some, None, option_map, unwrap_or, slice_get, Bool, true, false, ◌-◌, ◌⊎◌, IsSome}
+use Rattle.std.specs.Prelude.{◌≡◌, ◌≢◌, ◌≤◌, ℕ, zero, suc, ◌+◌, List, [], ◌∷◌, ◌++◌, length, map, filter, flat_map, take, fold, max, Option, Some, None, unwrap_or, slice_get, Bool, true, false, ◌-◌, ◌⊎◌, IsSome}
 use Rattle.std.specs.List.{list_any, range_with_len, AllByRecursion}
 use Rattle.sql_base.specs.declared.outcomes.Abort.{Abort}
 use Rattle.sql_base.specs.declared.outcomes.Abort.TheVariants.{LockedOut, PathLost}
 use Rattle.sql_base.specs.declared.outcomes.Outcome.{Outcome}
 use Rattle.sql_base.specs.declared.outcomes.Outcome.TheVariants.{Committed, RolledBack, Aborted}
 use Rattle.sql_base.specs.Scripts.{parts_of}
-use Rattle.sql_base.specs.declared.lock_names.TxnName.{TxnName}
 use Rattle.sql_base.specs.declared.scripts.Script.{Script}
 use Rattle.sql_base.specs.declared.scripts.Work.{Work}
 use Rattle.sql_base.specs.declared.statements.Statement.{Statement}
 use Rattle.dp_messages.specs.declared.replies.Reply.TheVariants as reply
 use Rattle.dp_messages.specs.declared.requests.Ask.{Ask}
 use Rattle.dp_messages.specs.declared.requests.Ask.TheVariants.{Continue, Prepare, EndCommit, EndUndo}
-use Rattle.dp_messages.specs.declared.requests.Request.{Request}
 use Rattle.requester_fs.specs.declared.logs.Answer.{Answer}
 use Rattle.requester_fs.specs.declared.logs.Answer.TheVariants.{Reply, PathFailed, Stamp}
 use Rattle.requester_fs.specs.declared.logs.LogEntry.{LogEntry}

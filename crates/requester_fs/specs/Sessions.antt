@@ -9,12 +9,11 @@ use Rattle.dp_messages.specs.declared.requests.Request.{Request}
 use Rattle.requester_fs.specs.declared.logs.Action.{Action}
 use Rattle.requester_fs.specs.declared.logs.Action.TheVariants.{Send, Commit, Finished}
 use Rattle.requester_fs.specs.declared.logs.Answer.{Answer}
-use Rattle.requester_fs.specs.declared.logs.Answer.TheVariants.{Reply, PathFailed, Stamp}
+use Rattle.requester_fs.specs.declared.logs.Answer.TheVariants.{Stamp}
 use Rattle.requester_fs.specs.declared.logs.LogEntry.{LogEntry}
 use Rattle.requester_fs.specs.declared.logs.LogEntry.TheVariants.{Asked, Drew}
 use Rattle.requester_fs.specs.Follows.{in_line}
 use Rattle.requester_fs.specs.Rows.{IsSent, fits}
-use Rattle.requester_fs.specs.Thin.{IsThin}
 
 -- what a session does next: it sends a request to a partition, draws a commit above a floor, or has finished
 pub data Next : Type 0 where

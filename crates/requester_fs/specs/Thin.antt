@@ -1,5 +1,5 @@
 -- The scripts that sessions run so far: one scan of one table.
-use Rattle.std.specs.Prelude.{◌≡◌, ℕ, List, [], ◌∷◌, None, true}
+use Rattle.std.specs.Prelude.{◌≡◌, [], ◌∷◌, None, true}
 use Rattle.sql_base.specs.Rows.{kinds}
 use Rattle.sql_base.specs.Scripts.{AreLimits}
 use Rattle.sql_base.specs.declared.lock_names.Access.TheVariants.{Repeatable}

@@ -1,7 +1,6 @@
 -- Scripts that the checker finds spelled by their bytes.
-use Rattle.std.proofs.Common.{◌≡◌, ◌≢◌, ℕ, List, [], ◌∷◌, length, None, Some, Result, Ok, Err, refl, subst, get_or, ◌<◌, arith}
+use Rattle.std.proofs.Common.{◌≢◌, ℕ, List, [], ◌∷◌, None, Some, Result, Ok, Err, refl, subst, get_or, ◌<◌, arith}
 use Rattle.std.specs.Prelude.{codes}
-use Rattle.sql_base.specs.declared.scripts.Script.{Script}
 use Rattle.statement_words.specs.declared.tokens.Token.{Token}
 use Rattle.statement_words.specs.Keywords.{keyword_of}
 use Rattle.statement_words.specs.Reading.{Place}

@@ -1,5 +1,5 @@
 -- A session that took an answer stands at the next place.
-use Rattle.std.proofs.Common.{◌≡◌, ◌≤◌, ℕ, ◌+◌, List, [], ◌∷◌, ◌++◌, vec_len, refl, ap, sym, ◌∙◌, subst, arith}
+use Rattle.std.proofs.Common.{◌≤◌, ◌+◌, [], ◌∷◌, ◌++◌, ap, sym, ◌∙◌, subst, arith}
 use Rattle.requester_fs.specs.Leading.{StandsAt, next_of}
 use Rattle.requester_fs.specs.Sessions.{MayCome, Working, entries_kept}
 use Rattle.requester_fs.proofs.Standing.{sync_after-le, stands_taken, stands_session}
