@@ -1,5 +1,5 @@
 -- How the parts of a run end, put together.
-use Rattle.std.proofs.Common.{◌≡◌, ◌≢◌, ℕ, ◌+◌, ◌<◌, ◌≤◌, List, [], length, take, drop, Option, Some, None, Err, IfSome, IsSome, ◌⊎◌, inl, inr, refl, ap, sym, ◌∙◌, subst, arith}
+use Rattle.std.proofs.Common.{◌≡◌, ◌≢◌, ℕ, ◌+◌, ◌<◌, ◌≤◌, List, length, take, drop, Option, Some, None, Err, IfSome, IsSome, ◌⊎◌, inl, inr, refl, ap, sym, ◌∙◌, subst, arith}
 use Rattle.std.specs.Io.KnownBytes.{Appends, Keeps}
 use Rattle.std.specs.Prelude.{count_by, not, ◌==◌}
 use Rattle.std.specs.List.{suffix_len}
@@ -260,3 +260,8 @@ pub reader-refused : (bytes : List ℕ) (error : ReadFault) (taken taken' : Opti
     → IsRefusal bytes error → Keeps taken taken' → RunsBytes bytes taken taken' faults faults' (refusal_of error)
 reader-refused bytes (reads.Script fault) taken taken' faults faults' only refusal keeps = bytes-refused bytes fault taken taken' faults faults' only refusal keeps
 reader-refused bytes reads.NoMemory taken taken' faults faults' only refusal keeps = bytes-short bytes taken taken' faults faults' keeps
+
+-- what was kept with status 0 is the record of a run of some script
+pub kept-of-run : {left left' taken taken' : Option (List ℕ)} {reads reads' writes writes' : ℕ} {o : Outcome}
+    → StepsEnds left left' reads reads' taken taken' writes writes' o → o.status ≡ 0 → (script : Script) × IfSome o.kept (Headline script)
+kept-of-run ended zero = let (bytes, told, (script, spells, done)) = ended.done zero in (script, done.headline)

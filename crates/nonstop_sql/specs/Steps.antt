@@ -1,6 +1,6 @@
 -- How `nsq steps` ends.
 -- Each is told of what the sink took and of its faults, before and after.
-use Rattle.std.specs.Prelude.{◌≡◌, ◌≢◌, ◌≤◌, ◌<◌, ℕ, List, [], take, Option, Some, None, IsSome, IfSome, ◌↔◌, ◌⊎◌}
+use Rattle.std.specs.Prelude.{◌≡◌, ◌≢◌, ◌≤◌, ℕ, List, [], take, Option, Some, None, IsSome, IfSome, ◌↔◌, ◌⊎◌}
 use Rattle.std.specs.Io.KnownBytes.{Appends, Keeps}
 use Rattle.outside.specs.Counter.{Rose}
 use Rattle.one_thread.specs.Answer.{answer_text}
@@ -9,7 +9,6 @@ use Rattle.statement_reader.specs.Spells.{Spells, IsFault}
 use Rattle.statement_reader.specs.declared.faults.ReadFault.{ReadFault}
 use Rattle.statement_reader.specs.declared.faults.ReadFault.TheVariants as reads
 use Rattle.sql_base.specs.declared.scripts.Script.{Script}
-use Rattle.run_record.specs.declared.records.RunRecord.{RunRecord}
 use Rattle.nonstop_sql.specs.declared.outcome.Outcome.{Outcome}
 
 -- the script was run: what was kept is the record of a run of it, and its text is written, which is that of one thread

@@ -1,6 +1,11 @@
 //! The program `nsq`: reads a script of SQL, runs it, and writes what came of it.
 #![tactic(auto)]
 
+ghost use Rattle.std.specs.Prelude.{◌≡◌, ◌≤◌, ◌↔◌, IfOk, IfSome};
+ghost use Rattle.run_record.specs.Headline.{Headline};
+ghost use Rattle.sql_base.specs.declared.scripts.Script.{Script};
+ghost use Rattle.nonstop_sql.specs.Commands.{IsSteps};
+
 mod commands;
 mod input;
 mod outcome;
@@ -27,10 +32,16 @@ fn words_of(rt: &HostRuntime) -> io::Result<Vec<String>> {
 }
 
 /// Runs the words over standard input and output, a gate that holds nobody and wires that carry everything.
-fn outcome_of(rt: &HostRuntime, words: &[String]) -> Result<Outcome, NoMemory> {
+///
+/// What is read and written isn't known here, but with status 0 the record is one of a run of some script.
+fn outcome_of(rt: &HostRuntime, words: &[String]) -> Result<Outcome, NoMemory>
+    ensures refused { IfOk result (λ outcome. (outcome.status ≡ 2) ↔ (IsSteps words.now → ⊥)) }
+    ensures ended { IfOk result (λ outcome. outcome.status ≤ 5) }
+    ensures ran { IsSteps words.now → IfOk result (λ outcome. outcome.status ≡ 0 → (script : Script) × IfSome outcome.kept (Headline script)) }
+{
     let alloc = rt.alloc();
     let mut wires: Vec<Box<dyn Wire + Send>> = Vec::new(alloc);
-    for _ in 0..WIRES {
+    for number in 0..WIRES {
         let carry = vec![in alloc; Passage::Carry]?;
         wires.push(Box::new(alloc, Cycle::new(carry))?)?;
     }
