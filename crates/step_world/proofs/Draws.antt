@@ -5,11 +5,10 @@ use Rattle.sql_base.specs.declared.scripts.Script.{Script}
 use Rattle.commit_journal.specs.declared.Drawn.{Drawn}
 use Rattle.partition_core.specs.Alone.{Ready}
 use Rattle.partition_core.specs.Kept.{Kept}
-use Rattle.partition_core.specs.State.{State}
 use Rattle.requester_fs.proofs.Lists.{Leads-append}
 use Rattle.requester_fs.specs.Leading.{Leads, Does, next_of, place_behind}
-use Rattle.requester_fs.specs.Places.{first_place, task_in, task_at, after, after_in, moved}
-use Rattle.requester_fs.specs.Sessions.{Next, Sends, Draws, Ends, Working, IsSessionOf, MayCome, entries_kept}
+use Rattle.requester_fs.specs.Places.{first_place, task_in, task_at, after_in, moved}
+use Rattle.requester_fs.specs.Sessions.{Draws, Working, IsSessionOf, entries_kept}
 use Rattle.requester_fs.specs.Thin.{IsThin}
 use Rattle.requester_fs.specs.declared.logs.Answer.TheVariants.{Stamp}
 use Rattle.requester_fs.specs.declared.logs.LogEntry.{LogEntry}
@@ -17,7 +16,6 @@ use Rattle.requester_fs.specs.declared.logs.LogEntry.TheVariants.{Drew}
 use Rattle.requester_fs.specs.declared.places.Place.{Place}
 use Rattle.requester_fs.specs.declared.places.Stage.{Stage}
 use Rattle.requester_fs.specs.declared.places.Stage.TheVariants.{Beginning, Continuing, Preparing, Drawing, Committing, Undoing, Finished}
-use Rattle.requester_fs.specs.declared.places.Task.TheVariants.{Commit}
 use Rattle.run_record.specs.WholeScan.{scan_opening, first_attempt, first_drawn, drew_first}
 use Rattle.step_world.specs.Running.{HasPrepared, HasDrawn, Stands, Running, actions_left, last_stamp}
 use Rattle.step_world.proofs.Moves.{stands_drawn}

@@ -9,7 +9,7 @@ use Rattle.partition_core.specs.Kept.{Kept}
 use Rattle.requester_fs.specs.Follows.{in_line}
 use Rattle.requester_fs.specs.Leading.{next_of}
 use Rattle.requester_fs.specs.Places.{task_in}
-use Rattle.requester_fs.specs.Sessions.{Next, Ends, Working}
+use Rattle.requester_fs.specs.Sessions.{Ends, Working}
 use Rattle.requester_fs.specs.declared.places.Stage.{Stage}
 use Rattle.requester_fs.specs.declared.places.Stage.TheVariants.{Finished}
 use Rattle.one_thread.specs.Answer.{answer_text}

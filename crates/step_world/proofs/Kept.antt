@@ -1,5 +1,5 @@
 -- The reply that a partition has kept is that of the entry.
-use Rattle.std.proofs.Common.{◌≡◌, ℕ, Some, Ok, Err, IfOk, Result, refl, sym, ◌∙◌, subst}
+use Rattle.std.proofs.Common.{◌≡◌, Some, Ok, Err, IfOk, Result, ◌∙◌}
 use Rattle.sql_base.specs.declared.faults.NoMemory.{NoMemory}
 use Rattle.dp_messages.specs.declared.replies.Reply.{Reply}
 use Rattle.partition_core.specs.State.{Opener}

@@ -1,13 +1,12 @@
 -- How far history, log and journal are after one more request, and after the draw.
-use Rattle.std.proofs.Common.{◌≡◌, ◌≤◌, ◌<◌, ℕ, ◌+◌, List, [], ◌∷◌, ◌++◌, length, map, true, refl, ap, sym, ◌∙◌, subst, append_assoc, arith}
+use Rattle.std.proofs.Common.{◌≡◌, ℕ, List, [], ◌∷◌, ◌++◌, map, true, refl, ap, sym, ◌∙◌, subst, append_assoc}
 use Rattle.std.proofs.lemmas.List.{map-append}
 use Rattle.sql_base.specs.declared.key_ranges.Start.{Start}
-use Rattle.sql_base.specs.declared.key_ranges.Start.TheVariants.{At, After}
 use Rattle.commit_journal.specs.declared.Drawn.{Drawn}
 use Rattle.dp_messages.specs.declared.replies.Reply.{Reply as PartitionReply}
 use Rattle.dp_messages.specs.declared.replies.Reply.TheVariants as reply
 use Rattle.partition_core.proofs.Alone.{ReadOn-push}
-use Rattle.partition_core.specs.Alone.{Phase, Fresh, Partway, Whole, Ready, Over, Shows, AsksOn, ReadOn}
+use Rattle.partition_core.specs.Alone.{Phase, Fresh, Partway, Whole, Shows, AsksOn}
 use Rattle.partition_core.specs.State.{State}
 use Rattle.partition_core.specs.declared.entries.Entry.{Entry}
 use Rattle.requester_fs.specs.Places.{after_reply}

@@ -1,12 +1,10 @@
 -- What a session sends in a thin run, how it is answered, and that the run goes on.
-use Rattle.std.proofs.Common.{◌≡◌, ◌≤◌, ◌<◌, ℕ, ◌+◌, List, [], ◌∷◌, ◌++◌, length, map, Bool, true, Some, None, refl, ap, sym, ◌∙◌, subst, arith}
+use Rattle.std.proofs.Common.{◌≡◌, ◌≤◌, ◌<◌, ℕ, ◌+◌, List, [], ◌∷◌, ◌++◌, length, true, refl, ap, sym, ◌∙◌, subst, arith}
 use Rattle.std.proofs.lemmas.List.{length_push}
 use Rattle.std.specs.List.{AllByRecursion}
-use Rattle.sql_base.specs.Scripts.{Lies}
 use Rattle.sql_base.specs.declared.key_ranges.Start.{Start}
 use Rattle.sql_base.specs.declared.key_ranges.Start.TheVariants.{At, After}
 use Rattle.sql_base.specs.declared.scripts.Script.{Script}
-use Rattle.sql_base.specs.declared.tables.TableDef.{TableDef}
 use Rattle.commit_journal.specs.declared.Drawn.{Drawn}
 use Rattle.dp_messages.specs.declared.replies.Reply.{Reply as PartitionReply}
 use Rattle.dp_messages.specs.declared.replies.Reply.TheVariants as reply
@@ -15,8 +13,8 @@ use Rattle.dp_messages.specs.declared.requests.Ask.TheVariants.{Continue, Prepar
 use Rattle.dp_messages.specs.declared.requests.Request.{Request}
 use Rattle.partition_core.proofs.Alone.{begun, continued, prepared, committed, still-push}
 use Rattle.partition_core.proofs.Replays.{replay-push, IsReplayed-served}
-use Rattle.partition_core.specs.Alone.{Phase, Fresh, Partway, Whole, Ready, Over, ReadBy, Suits, Shows, AsksOn, by_reader, begin_ask, cells_from}
-use Rattle.partition_core.specs.History.{before, replay}
+use Rattle.partition_core.specs.Alone.{Phase, Fresh, Partway, Whole, Ready, Over, ReadBy, Suits, Shows, AsksOn, by_reader, cells_from}
+use Rattle.partition_core.specs.History.{replay}
 use Rattle.partition_core.specs.Kept.{Kept, IsServed, served, entry_of, opener_in}
 use Rattle.partition_core.specs.State.{State}
 use Rattle.partition_core.specs.Step.{step}
@@ -24,21 +22,20 @@ use Rattle.partition_core.specs.declared.entries.Entry.{Entry}
 use Rattle.requester_fs.proofs.Complete.{place}
 use Rattle.requester_fs.proofs.Lists.{Leads-append}
 use Rattle.requester_fs.proofs.Nexts.{next_at}
-use Rattle.requester_fs.specs.Leading.{Leads, Does, next_of, sync_behind, place_behind}
+use Rattle.requester_fs.specs.Leading.{Leads, Does, next_of}
 use Rattle.requester_fs.specs.Places.{first_place, task_in, task_at, after, after_reply, after_prepare, begin}
 use Rattle.requester_fs.specs.Rows.{IsSent, fits, fits_subset}
-use Rattle.requester_fs.specs.Sessions.{Next, Sends, Draws, Ends, Working, IsSessionOf, MayCome, entries_kept}
+use Rattle.requester_fs.specs.Sessions.{Sends, Working, IsSessionOf, MayCome, entries_kept}
 use Rattle.requester_fs.specs.Thin.{IsThin}
-use Rattle.requester_fs.specs.declared.logs.Answer.TheVariants.{Reply, Stamp}
+use Rattle.requester_fs.specs.declared.logs.Answer.TheVariants.{Reply}
 use Rattle.requester_fs.specs.declared.logs.LogEntry.{LogEntry}
-use Rattle.requester_fs.specs.declared.logs.LogEntry.TheVariants.{Asked, Drew}
 use Rattle.requester_fs.specs.declared.places.Place.{Place}
 use Rattle.requester_fs.specs.declared.places.Task.{Task}
 use Rattle.requester_fs.specs.declared.places.Task.TheVariants.{Send, Commit, Nothing}
 use Rattle.requester_fs.specs.declared.places.Stage.{Stage}
 use Rattle.requester_fs.specs.declared.places.Stage.TheVariants.{Beginning, Continuing, Preparing, Drawing, Committing, Undoing, Finished}
-use Rattle.run_record.specs.WholeScan.{IsRun, scan_reader, scan_opening, asked}
-use Rattle.step_world.specs.Running.{IsPrepare, IsCommit, HasRead, HasPrepared, HasDrawn, HasCommitted, Stands, Running, actions_left, asks_left}
+use Rattle.run_record.specs.WholeScan.{scan_reader, scan_opening, asked}
+use Rattle.step_world.specs.Running.{IsPrepare, IsCommit, HasRead, HasDrawn, Stands, Running, actions_left, asks_left}
 use Rattle.step_world.proofs.Moves.{read_more, shows_fits, stands_read, stands_prepared, stands_committed}
 use Rattle.step_world.proofs.Syncs.{next_sync}
 

@@ -1,14 +1,11 @@
 -- A run begins with nothing asked, served and drawn.
-use Rattle.std.proofs.Common.{◌≡◌, ◌≤◌, ◌<◌, ℕ, zero, suc, ◌+◌, List, [], ◌∷◌, length, map, Bool, true, false, ◌&&◌, Some, None, refl, ap, sym, ◌∙◌, subst, arith}
+use Rattle.std.proofs.Common.{◌≡◌, ◌≤◌, ℕ, zero, suc, List, [], ◌∷◌, length, map, Bool, true, false, ◌&&◌, None, refl, ap, sym, ◌∙◌, subst, arith}
 use Rattle.std.specs.Prelude.{IsSome}
 use Rattle.std.specs.List.{AllByRecursion}
 use Rattle.std.proofs.lemmas.List.{length-map}
 use Rattle.sql_base.specs.Keys.{Rise}
-use Rattle.sql_base.specs.Rows.{IsRow, AreRecords, are_of_kinds, in_i64, kinds, key_of, packed}
-use Rattle.sql_base.specs.declared.tables.Column.{Column}
+use Rattle.sql_base.specs.Rows.{IsRow, are_of_kinds, in_i64, kinds, key_of, packed}
 use Rattle.commit_journal.specs.declared.Drawn.{Drawn}
-use Rattle.sql_base.specs.Scripts.{Lies}
-use Rattle.sql_base.specs.declared.scripts.Limits.{Limits}
 use Rattle.sql_base.specs.declared.scripts.Script.{Script}
 use Rattle.sql_base.specs.declared.tables.ColumnKind.TheVariants.{Int}
 use Rattle.sql_base.specs.declared.tables.TableDef.{TableDef}
@@ -16,18 +13,18 @@ use Rattle.sql_base.specs.declared.values.Value.{Value}
 use Rattle.sql_base.specs.declared.values.Value.TheVariants as value
 use Rattle.key_sequenced.specs.declared.Cell.{Cell}
 use Rattle.partition_core.proofs.Alone.{opened-read}
-use Rattle.partition_core.specs.Alone.{Fresh, ReadBy, Suits, FitsBuffer, ReadOn}
+use Rattle.partition_core.specs.Alone.{Fresh, Suits, FitsBuffer}
 use Rattle.partition_core.specs.History.{before}
 use Rattle.partition_core.specs.Kept.{Kept, opened_with}
-use Rattle.partition_core.specs.State.{State, opening, new_cell}
-use Rattle.partition_core.specs.Step.{are_columns_here, is_shaped}
+use Rattle.partition_core.specs.State.{State, new_cell}
+use Rattle.partition_core.specs.Step.{is_shaped}
 use Rattle.requester_fs.specs.Leading.{Leads}
 use Rattle.requester_fs.specs.Places.{first_place}
 use Rattle.requester_fs.specs.Sessions.{Working, IsSessionOf}
 use Rattle.requester_fs.specs.Thin.{IsThinTable}
 use Rattle.run_record.proofs.ThinOpenings.{scanned_records, thin_table}
-use Rattle.run_record.specs.WholeScan.{IsRun, scan_reader, scan_opening, scanned_rows, asked}
-use Rattle.step_world.specs.Running.{HasRead, Running, Opens}
+use Rattle.run_record.specs.WholeScan.{IsRun, scan_reader, scan_opening, scanned_rows}
+use Rattle.step_world.specs.Running.{Running, Opens}
 
 and_right : (a b : Bool) → (a && b) ≡ true → b ≡ true
 and_right true b h = h

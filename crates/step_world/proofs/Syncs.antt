@@ -1,11 +1,10 @@
 -- The sync of the next request is one more than the number of entries.
-use Rattle.std.proofs.Common.{◌≡◌, ℕ, ◌+◌, List, [], ◌∷◌, ◌++◌, length, map, refl, ap, sym, ◌∙◌, arith, length-append}
+use Rattle.std.proofs.Common.{◌≡◌, ℕ, ◌+◌, List, [], ◌∷◌, ◌++◌, length, map, ap, sym, ◌∙◌, arith, length-append}
 use Rattle.std.proofs.lemmas.List.{append-nil}
 use Rattle.commit_journal.specs.declared.Drawn.{Drawn}
 use Rattle.partition_core.specs.Alone.{Phase}
 use Rattle.partition_core.specs.State.{State}
 use Rattle.partition_core.specs.declared.entries.Entry.{Entry}
-use Rattle.requester_fs.proofs.Lists.{sync_behind-append}
 use Rattle.requester_fs.specs.Leading.{sync_behind}
 use Rattle.requester_fs.specs.declared.logs.LogEntry.{LogEntry}
 use Rattle.requester_fs.specs.declared.places.Stage.{Stage}

@@ -1,6 +1,5 @@
 -- A new request is kept with its reply.
-use Rattle.std.proofs.Common.{◌≡◌, ◌≤◌, ◌<◌, ap, sym, ◌∙◌, arith}
-use Rattle.sql_base.specs.Scripts.{Lies}
+use Rattle.std.proofs.Common.{◌≡◌, ap, ◌∙◌, arith}
 use Rattle.partition_core.proofs.Alone.{kept_reply}
 use Rattle.partition_core.specs.Kept.{Kept, opener_in, entry_of}
 use Rattle.step_world.proofs.Kept.{kept_one, copy_of}

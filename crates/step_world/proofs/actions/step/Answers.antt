@@ -1,5 +1,5 @@
 -- Whatever the session does next, the run goes on with it.
-use Rattle.std.proofs.Common.{◌≡◌, ap, sym, subst}
+use Rattle.std.proofs.Common.{sym, subst}
 use Rattle.requester_fs.specs.Sessions.{MayCome}
 use Rattle.requester_fs.specs.declared.logs.Answer.TheVariants.{Reply}
 use Rattle.step_world.proofs.Sends.{sending, sent_on}

@@ -1,4 +1,3 @@
-use Rattle.std.proofs.Common.{ℕ}
 use Rattle.step_world.specs.Running.{Running, actions_left}
 use Rattle.step_world.proofs.driver.drive.Given as goal
 
