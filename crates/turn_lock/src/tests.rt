@@ -204,3 +204,12 @@ fn a_closed_value_has_the_root_that_it_began_with(rt: HostRuntime) -> Result<(),
     assert_eq!(rt; account.paid.as_slice(), [30].as_slice());
     Ok(())
 }
+
+#[test]
+fn errors_say_what_happened(rt: HostRuntime) -> Result<(), Fail> {
+    let busy = format!(in rt.alloc(); "{}", Busy { holder: 3 })?;
+    assert_eq!(rt; busy.as_str(), "pass 3 holds the turn");
+    let no_memory = format!(in rt.alloc(); "{NoMemory}")?;
+    assert_eq!(rt; no_memory.as_str(), "out of memory");
+    Ok(())
+}
