@@ -1,5 +1,4 @@
 use Rattle.std.proofs.Common.{◌≡◌, drop}
-use Rattle.std.specs.Prelude.{find}
 use Rattle.subset_blocks.specs.Blocks.{find_block}
 use Rattle.subset_blocks.proofs.find_block.Given as goal
 

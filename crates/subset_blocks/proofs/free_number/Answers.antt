@@ -1,6 +1,5 @@
 use Rattle.std.proofs.Common.{arith, sym, ◌∙◌}
-use Rattle.std.proofs.lemmas.Grind.{common_steps}
-use Rattle.subset_blocks.proofs.FreeNumbers.{search-found, search-more, free_number-is_free}
+use Rattle.subset_blocks.proofs.FreeNumbers.{search-found, search-more}
 use Rattle.subset_blocks.proofs.free_number.Goals as goal
 
 pub returns-then-not-has_number : goal.returns-then-not-has_number
