@@ -11,6 +11,3 @@ mod make;
 pub use fault::{GatherFault, NoMemory};
 pub use letter::Letter;
 pub use mail::{CAPACITY, Mail, Poster, Taker};
-
-#[cfg(test)]
-mod tests;

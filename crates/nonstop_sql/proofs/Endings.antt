@@ -6,17 +6,21 @@ use Rattle.std.specs.List.{suffix_len}
 use Rattle.std.proofs.lemmas.Bool.{cases_lt}
 use Rattle.std.proofs.lemmas.List.{take_all, drop_all, take-take, length-take-le}
 use Rattle.outside.specs.Counter.{Rose}
-use Rattle.statement_reader.specs.Spells.{Spells, Reads, IsFault, IsRefusal}
+use Rattle.statement_reader.specs.Spells.{FaultOf, Spells, Reads, IsFault, IsRefusal}
+use Rattle.statement_words.specs.Words.{words_of}
+use Rattle.thin_scripts.specs.Thin.{IsThin}
+use Rattle.statement_reader.proofs.Refusals.{spelled_once}
+use Rattle.nonstop_sql.specs.declared.outcome.Refusal.{Refusal}
+use Rattle.nonstop_sql.specs.declared.outcome.Refusal.TheVariants as refusal
 use Rattle.statement_reader.specs.declared.faults.ReadFault.{ReadFault}
 use Rattle.statement_reader.specs.declared.faults.ReadFault.TheVariants as reads
-use Rattle.statement_reader.specs.declared.faults.Reason.TheVariants.{TooLarge}
+use Rattle.statement_draft.specs.declared.faults.Reason.TheVariants.{TooLarge}
 use Rattle.statement_reader.specs.declared.faults.ScriptFault.{ScriptFault}
 use Rattle.sql_base.specs.declared.scripts.Script.{Script}
 use Rattle.run_record.specs.declared.records.RunRecord.{RunRecord}
 use Rattle.nonstop_sql.specs.declared.outcome.Outcome.{Outcome}
-use Rattle.one_thread.specs.Answer.{answer_text}
 use Rattle.run_record.specs.Headline.{Headline}
-use Rattle.nonstop_sql.specs.Steps.{IsDone, IsCut, Runs, RunsBytes, Spelled, EndsOn, WasRead, StepsEnds, SpellsNone, refusal_of}
+use Rattle.nonstop_sql.specs.Steps.{IsDone, IsCut, IsRan, IsRefused, IsUnrun, Runs, RunsBytes, RunsNone, Spelled, EndsOn, WasRead, StepsEnds, SpellsNone, refusal_of}
 
 abbrev pub bare : ℕ → Outcome
 bare status = record { status = status; kept = None; fault = None }
@@ -24,45 +28,6 @@ bare status = record { status = status; kept = None; fault = None }
 pub Keeps-same : (known : Option (List ℕ)) → Keeps known known
 Keeps-same None = tt
 Keeps-same (Some bytes) = refl
-
--- a status is one number
-not_both : (o : Outcome) (m n : ℕ) → o.status ≡ m → o.status ≡ n → m ≢ n → ⊥
-not_both o m n a b differ = differ (sym a ∙ b)
-
-pub runs-short : (script : Script) (taken taken' : Option (List ℕ)) (faults faults' : ℕ) → Keeps taken taken' → Runs script taken taken' faults faults' (bare 5)
-runs-short script taken taken' faults faults' keeps = record {
-  status = inr (inr refl);
-  fault = refl;
-  kept = (λ h. absurd (omega arith), λ h. absurd (cc));
-  failed = λ h. absurd (omega arith);
-  unwritten = λ h. keeps;
-  done = λ h. absurd (omega arith);
-  cut = λ h. absurd (omega arith);
-}
-
-pub runs-done : (script : Script) (kept : RunRecord) (taken taken' : Option (List ℕ)) (faults faults' : ℕ) → Headline script kept → Appends taken taken' (answer_text script)
-    → Runs script taken taken' faults faults' (record { status = 0; kept = Some kept; fault = None })
-runs-done script kept taken taken' faults faults' holds appends = record {
-  status = inl refl;
-  fault = refl;
-  kept = (λ h. refl, λ h. refl);
-  failed = λ h. absurd (omega arith);
-  unwritten = λ h. absurd (omega arith);
-  done = λ h. record { headline = holds; written = appends };
-  cut = λ h. absurd (omega arith);
-}
-
-pub runs-failed : (script : Script) (count : ℕ) (taken taken' : Option (List ℕ)) (faults faults' : ℕ) → Rose faults faults'
-    → Appends taken taken' (take count (answer_text script)) → Runs script taken taken' faults faults' (bare 4)
-runs-failed script count taken taken' faults faults' rose appends = record {
-  status = inr (inl refl);
-  fault = refl;
-  kept = (λ h. absurd (omega arith), λ h. absurd (cc));
-  failed = λ h. rose;
-  unwritten = λ h. absurd (omega arith);
-  done = λ h. absurd (omega arith);
-  cut = λ h. (count, appends);
-}
 
 not_one : (o : Outcome) → (o.status ≡ 0) ⊎ ((o.status ≡ 4) ⊎ (o.status ≡ 5)) → o.status ≡ 1 → ⊥
 not_one o (inl e) h = omega (arith, e, h)
@@ -75,31 +40,50 @@ is_five o (inr (inl e)) zero four = absurd (four e)
 is_five o (inr (inr e)) zero four = e
 
 -- a script that the bytes spell was run
-pub bytes-ran : (bytes : List ℕ) (script : Script) (taken taken' : Option (List ℕ)) (faults faults' : ℕ) (o : Outcome) → Spells bytes script
+pub bytes-ran : (bytes : List ℕ) (script : Script) (taken taken' : Option (List ℕ)) (faults faults' : ℕ) (o : Outcome) → Spells bytes script → IsThin script
     → Runs script taken taken' faults faults' o → RunsBytes bytes taken taken' faults faults' o
-bytes-ran bytes script taken taken' faults faults' o found runs = record {
+bytes-ran bytes script taken taken' faults faults' o found thin runs = record {
   status = inr runs.status;
   fault = (λ h. absurd (not_one o runs.status h), λ h. absurd (none_there runs.fault h));
   kept = runs.kept;
   refused = λ h. absurd (not_one o runs.status h);
-  refuses = λ none. absurd (none script found);
+  refuses = λ none. absurd (unrun none);
   failed = runs.failed;
   unwritten = λ zero four. runs.unwritten (is_five o runs.status zero four);
   done = λ h. (script, found, runs.done h);
   cut = λ h. (script, found, runs.cut h);
 }
   where
+    unrun : RunsNone bytes → ⊥
+    unrun (inl none) = none script found
+    unrun (inr (other, spelled, not_thin)) = not_thin (subst IsThin (spelled_once bytes script other found spelled) thin)
+
     none_there : {A : Type 0} {fault : Option A} → fault ≡ None → IsSome fault → ⊥
     none_there e h = subst (λ f. IsSome f → ⊥) (sym e) (λ k. absurd (cc)) h
 
 -- bytes that spell none were refused
 pub bytes-refused : (bytes : List ℕ) (fault : ScriptFault) (taken taken' : Option (List ℕ)) (faults faults' : ℕ) → SpellsNone bytes → IsFault bytes fault
-    → Keeps taken taken' → RunsBytes bytes taken taken' faults faults' (record { status = 1; kept = None; fault = Some fault })
+    → Keeps taken taken' → RunsBytes bytes taken taken' faults faults' (record { status = 1; kept = None; fault = Some (refusal.Script fault) })
 bytes-refused bytes fault taken taken' faults faults' none is keeps = record {
   status = inl refl;
   fault = (λ h. refl, λ h. refl);
   kept = (λ h. absurd (omega arith), λ h. absurd (cc));
   refused = λ h. (none, is);
+  refuses = λ h. inl refl;
+  failed = λ h. absurd (omega arith);
+  unwritten = λ zero four. keeps;
+  done = λ h. absurd (omega arith);
+  cut = λ h. absurd (omega arith);
+}
+
+-- bytes that spell a script which isn't run were refused
+pub bytes-unrun : (bytes : List ℕ) (script : Script) (taken taken' : Option (List ℕ)) (faults faults' : ℕ) → Spells bytes script → IsUnrun script → Keeps taken taken'
+    → RunsBytes bytes taken taken' faults faults' (record { status = 1; kept = None; fault = Some refusal.NotYet })
+bytes-unrun bytes script taken taken' faults faults' found unrun keeps = record {
+  status = inl refl;
+  fault = (λ h. refl, λ h. refl);
+  kept = (λ h. absurd (omega arith), λ h. absurd (cc));
+  refused = λ h. (script, found, unrun);
   refuses = λ h. inl refl;
   failed = λ h. absurd (omega arith);
   unwritten = λ zero four. keeps;
@@ -150,20 +134,26 @@ fault_behind before = record { line = 1 + count_by (λ b. b == 10) before; colum
 fault-whole : (bytes : List ℕ) (fault : ScriptFault) → IsFault (front_of bytes) fault → IsFault bytes fault
 fault-whole bytes fault is = record {
   beyond = λ lt. is.beyond (omega (arith, length-take-le 4194305 bytes (omega arith))) ∙ ap fault_behind (take-take 4194304 4194305 bytes (omega arith));
-  within = λ le. is.within (subst (λ b. length b ≤ 4194304) (sym (whole bytes le)) le);
+  within = λ le. subst (λ b. FaultOf b fault (words_of b)) (whole bytes le) (is.within (subst (λ b. length b ≤ 4194304) (sym (whole bytes le)) le));
 }
 
-if_fault : (bytes : List ℕ) (fault : Option ScriptFault) → IfSome fault (IsFault (front_of bytes)) → IfSome fault (IsFault bytes)
-if_fault bytes None h = tt
-if_fault bytes (Some fault) h = fault-whole bytes fault h
+refused-whole : (bytes : List ℕ) (why : Option Refusal) → IfSome why (IsRefused (front_of bytes)) → IfSome why (IsRefused bytes)
+refused-whole bytes None h = tt
+refused-whole bytes (Some (refusal.Script fault)) h = ((λ s spelled. h.0 s (spells-front bytes s spelled)), fault-whole bytes fault h.1)
+refused-whole bytes (Some refusal.NotYet) h = (h.0, spells-whole bytes h.0 h.1, h.2)
+
+none-front : (bytes : List ℕ) → RunsNone bytes → RunsNone (front_of bytes)
+none-front bytes (inl none) = inl (λ s spelled. none s (spells-whole bytes s spelled))
+none-front bytes (inr (script, spelled, unrun)) = inr (script, spells-front bytes script spelled, unrun)
 
 -- the front of what a source told was read and run
 on_whole : (bytes : List ℕ) (left' taken taken' : Option (List ℕ)) (faults faults' : ℕ) (o : Outcome) → RunsBytes (front_of bytes) taken taken' faults faults' o
     → left' ≡ Some (drop 4194305 bytes) → EndsOn bytes left' o
 on_whole bytes left' taken taken' faults faults' o runs rest = record {
-  refused = λ h. ((λ s spelled. (runs.refused h).0 s (spells-front bytes s spelled)), if_fault bytes o.fault (runs.refused h).1);
-  refuses = λ none. refused_or_short (runs.refuses (λ s spelled. none s (spells-whole bytes s spelled)));
+  refused = λ h. refused-whole bytes o.fault (runs.refused h);
+  refuses = λ none. refused_or_short (runs.refuses (none-front bytes none));
   read_whole = λ h. let within : length bytes ≤ 4194304 = front_within bytes (runs.done h).1.within in rest ∙ ap Some (drop_all 4194305 bytes (omega arith));
+  read_on = λ h. rest;
 }
   where
     refused_or_short : (o.status ≡ 1) ⊎ (o.status ≡ 5) → (o.status ≡ 1) ⊎ ((o.status ≡ 3) ⊎ (o.status ≡ 5))
@@ -229,6 +219,7 @@ steps-unread left left' taken taken' read_faults read_faults' write_faults write
       refused = λ h. absurd (omega arith);
       refuses = λ none. inr (inl refl);
       read_whole = λ h. absurd (omega arith);
+      read_on = λ h. absurd (omega arith);
     }
 
 -- memory was short while the source was read
@@ -253,6 +244,7 @@ steps-short left left' taken taken' read_faults read_faults' write_faults write_
       refused = λ h. absurd (omega arith);
       refuses = λ none. inr (inr refl);
       read_whole = λ h. absurd (omega arith);
+      read_on = λ h. absurd (omega arith);
     }
 
 -- the reader gave no script
@@ -264,4 +256,8 @@ reader-refused bytes reads.NoMemory taken taken' faults faults' only refusal kee
 -- what was kept with status 0 is the record of a run of some script
 pub kept-of-run : {left left' taken taken' : Option (List ℕ)} {reads reads' writes writes' : ℕ} {o : Outcome}
     → StepsEnds left left' reads reads' taken taken' writes writes' o → o.status ≡ 0 → (script : Script) × IfSome o.kept (Headline script)
-kept-of-run ended zero = let (bytes, told, (script, spells, done)) = ended.done zero in (script, done.headline)
+kept-of-run {taken = taken} {taken' = taken'} {o = o} ended zero = let (bytes, told, (script, spells, done)) = ended.done zero in (script, headlined taken taken' script o.kept done)
+  where
+    headlined : (taken taken' : Option (List ℕ)) (script : Script) (kept : Option RunRecord) → IfSome kept (λ k. (text : List ℕ) × IsRan script k text × Appends taken taken' text) → IfSome kept (Headline script)
+    headlined _ _ script None h = tt
+    headlined _ _ script (Some k) h = h.1.headline

@@ -1,9 +1,9 @@
 -- A thin script is one that is run.
 use Rattle.sql_base.specs.declared.scripts.Script.{Script}
 use Rattle.requester_fs.specs.Thin as session
-use Rattle.run_record.specs.WholeScan.{IsRun}
-use Rattle.statement_reader.specs.Thin.{IsThin}
-use Rattle.statement_reader.proofs.ThinScripts.{are_limits, is_script}
+use Rattle.step_world.specs.WholeScan.{IsRun}
+use Rattle.thin_scripts.specs.Thin.{IsThin}
+use Rattle.thin_scripts.proofs.ThinScripts.{are_limits, is_script}
 
 -- the session runs it
 pub runs_in_session : (script : Script) → IsThin script → session.IsThin script

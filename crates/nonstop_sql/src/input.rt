@@ -1,13 +1,12 @@
+//! Reading a source to its end.
 ghost use Rattle.std.specs.Prelude.{◌≡◌, ℕ, List, ◌+◌, ◌≤◌, take, drop, length, IfOk, OnOk, OnErr, IfSome};
 ghost use Rattle.std.specs.Io.KnownBytes.{Consumes};
 ghost use Rattle.outside.specs.Counter.{Rose};
 ghost use Rattle.nonstop_sql.specs.declared.input.ReadError.TheVariants.{Failed, NoMemory};
 
 use outside::{Failed, Source};
+use statement_words::SCRIPT_LIMIT;
 use std::alloc::{AllocError, Global};
-
-/// The most bytes that a script may have.
-pub const SCRIPT_LIMIT: usize = 4_194_304;
 
 /// The most bytes that are asked for in one read.
 const PIECE: usize = 65_536;
@@ -39,11 +38,11 @@ impl From<AllocError> for ReadError {
 ///
 /// After an error the bytes that were read are lost.
 pub fn read_to_limit<S: Source>(alloc: Global, source: &mut S) -> Result<Vec<u8>, ReadError>
-    ensures within { IfOk result (λ bytes. length bytes.items ≤ SCRIPT_LIMIT + 1) }
+    ensures within { IfOk result (λ bytes. length bytes.items ≤ 4194305) }
     ensures front { IfOk result (λ bytes.
-        IfSome (S.left source.old) (λ left. bytes.items ≡ take (SCRIPT_LIMIT + 1) left)) }
+        IfSome (S.left source.old) (λ left. bytes.items ≡ take 4194305 left)) }
     ensures rest { OnOk result
-        (IfSome (S.left source.old) (λ left. S.left source.new ≡ Some (drop (SCRIPT_LIMIT + 1) left))) }
+        (IfSome (S.left source.old) (λ left. S.left source.new ≡ Some (drop 4194305 left))) }
 
     ensures failed { result ≡ Err ReadError.Failed → Rose (S.faults source.old) (S.faults source.new) }
     ensures lost { OnErr result

@@ -6,6 +6,7 @@ ghost use Rattle.run_record.specs.Headline.{Headline};
 ghost use Rattle.sql_base.specs.declared.scripts.Script.{Script};
 ghost use Rattle.nonstop_sql.specs.Commands.{IsSteps};
 
+mod checks;
 mod commands;
 mod input;
 mod outcome;
@@ -13,8 +14,8 @@ mod output;
 mod top;
 
 pub use commands::{Command, WordsFault, command_of};
-pub use input::{ReadError, SCRIPT_LIMIT, read_to_limit};
-pub use outcome::Outcome;
+pub use input::{ReadError, read_to_limit};
+pub use outcome::{Outcome, Refusal};
 pub use output::write_all;
 use outside::{Cycle, Passage, QuietGate, StdSink, StdSource, Wire};
 use sql_base::NoMemory;
@@ -63,10 +64,11 @@ fn outcome_of(rt: &HostRuntime, words: &[String]) -> Result<Outcome, NoMemory>
 fn tell(rt: &HostRuntime, outcome: &Outcome) -> io::Result<()> {
     match (outcome.status, outcome.fault) {
         (0, _) => eprintln!(rt; "nsq: done"),
-        (1, Some(fault)) => eprintln!(rt;
+        (1, Some(Refusal::Script(fault))) => eprintln!(rt;
             "nsq: line {} column {}: {:?}",
             fault.line, fault.column, fault.reason
         ),
+        (1, Some(Refusal::NotYet)) => eprintln!(rt; "nsq: not run yet"),
         (2, _) => eprintln!(rt; "nsq: bad command line"),
         (3, _) => eprintln!(rt; "nsq: read failed"),
         (4, _) => eprintln!(rt; "nsq: write failed"),

@@ -54,37 +54,23 @@ fn outcome_over(
     ))
 }
 
-/// What a run did: its status, a letter for each reply of the first partition, the length of the first log, the
-/// stamps that were drawn, the bytes that the sink took, and how many the source still had.
+/// What a run did: its status, a letter for each reply of the first partition, and the bytes that the sink took.
 #[derive(Drop)]
 struct Done {
     status: u8,
     replies: Vec<u8>,
-    logged: usize,
-    stamps: Vec<u64>,
     taken: Vec<u8>,
-    left: usize,
 }
 
-/// What was done, told from how a run ended and from its ends.
-fn done_of(
-    alloc: Global,
-    outcome: &Outcome,
-    source: &mut MemorySource,
-    sink: &MemorySink,
-) -> Result<Done, Fail> {
+/// What was done, told from how a run ended and from its sink.
+fn done_of(alloc: Global, outcome: &Outcome, sink: &MemorySink) -> Result<Done, Fail> {
     let mut done = Done {
         status: outcome.status,
         replies: Vec::new(alloc),
-        logged: 0,
-        stamps: Vec::new(alloc),
         taken: sink.taken().to_vec(alloc)?,
-        left: read_to_limit(alloc, source)?.len(),
     };
     if let Some(kept) = &outcome.kept {
         done.replies = replies_of(alloc, kept)?;
-        done.logged = logged_in(kept);
-        done.stamps = stamps_of(alloc, kept)?;
     }
     Ok(done)
 }
@@ -101,18 +87,7 @@ fn run_over(
     let mut source = MemorySource::new(script, fails);
     let mut sink = MemorySink::new(alloc, room, Vec::new(alloc))?;
     let outcome = outcome_over(alloc, words.as_slice(), &mut source, &mut sink, wire_count)?;
-    done_of(alloc, &outcome, &mut source, &sink)
-}
-
-/// Runs the script whose LOAD is this, with all that it needs.
-fn run_scan(alloc: Global, load: &[u8]) -> Result<Done, Fail> {
-    run_over(
-        alloc,
-        script_of(alloc, load)?,
-        Vec::new(alloc),
-        AMPLE,
-        WIRES,
-    )
+    done_of(alloc, &outcome, &sink)
 }
 
 /// The first letter of a reply's name.
@@ -136,90 +111,85 @@ fn replies_of(alloc: Global, kept: &RunRecord) -> Result<Vec<u8>, NoMemory> {
     Ok(letters)
 }
 
-fn logged_in(kept: &RunRecord) -> usize {
-    match kept.logs.items().first() {
-        Some(log) => log.items().len(),
-        None => 0,
+/// A run, and what must come of it.
+struct Case {
+    load: &'static [u8],
+    fails: &'static [u64],
+    room: usize,
+    wire_count: usize,
+    status: u8,
+    replies: &'static [u8],
+    taken: &'static [u8],
+}
+
+/// The scan of five, of four and of no rows; a read that fails; a sink that is full; seven wires.
+const CASES: [Case; 6] = [
+    Case {
+        load: b"LOAD t (1,10),(2,20),(3,30),(4,40),(5,50);\n",
+        fails: &[],
+        room: AMPLE,
+        wire_count: 8,
+        status: 0,
+        replies: b"RREFD",
+        taken: b"TXN 1 1 COMMITTED 1\nROW 1 1 1 1 10\nROW 1 1 1 2 20\nROW 1 1 1 3 30\nROW 1 1 1 4 40\nROW 1 1 1 5 50\nTABLE t\nREC 1 10\nREC 2 20\nREC 3 30\nREC 4 40\nREC 5 50\n",
+    },
+    Case {
+        load: b"LOAD t (1,10),(2,20),(3,30),(4,40);\n",
+        fails: &[],
+        room: 5,
+        wire_count: 9,
+        status: 4,
+        replies: b"",
+        taken: b"TXN 1",
+    },
+    Case {
+        load: b"",
+        fails: &[],
+        room: AMPLE,
+        wire_count: 8,
+        status: 0,
+        replies: b"EFD",
+        taken: b"TXN 1 1 COMMITTED 1\nTABLE t\n",
+    },
+    Case {
+        load: b"",
+        fails: &[1],
+        room: AMPLE,
+        wire_count: 8,
+        status: 3,
+        replies: b"",
+        taken: b"",
+    },
+    Case {
+        load: b"LOAD t (2,10),(1,20);\n",
+        fails: &[],
+        room: AMPLE,
+        wire_count: 8,
+        status: 1,
+        replies: b"",
+        taken: b"",
+    },
+    Case {
+        load: b"",
+        fails: &[],
+        room: AMPLE,
+        wire_count: 7,
+        status: 2,
+        replies: b"",
+        taken: b"",
+    },
+];
+
+#[test]
+fn runs_end_as_they_should(rt: HostRuntime) -> Result<(), Fail> {
+    let alloc = rt.alloc();
+    for case in &CASES {
+        let script = script_of(alloc, case.load)?;
+        let fails = case.fails.to_vec(alloc)?;
+        let done = run_over(alloc, script, fails, case.room, case.wire_count)?;
+        assert_eq!(rt; done.status, case.status);
+        assert_eq!(rt; done.replies.as_slice(), case.replies);
+        assert_eq!(rt; done.taken.as_slice(), case.taken);
     }
-}
-
-fn stamps_of(alloc: Global, kept: &RunRecord) -> Result<Vec<u64>, NoMemory> {
-    let mut stamps = Vec::new(alloc);
-    for drawn in kept.journal.items() {
-        stamps.push(drawn.stamp)?;
-    }
-    Ok(stamps)
-}
-
-/// Whether bytes are those that are expected.
-fn are(bytes: &[u8], expected: &[u8]) -> bool {
-    bytes == expected
-}
-
-#[test]
-fn five_keys_take_three_quanta(rt: HostRuntime) -> Result<(), Fail> {
-    let done = run_scan(rt.alloc(), b"LOAD t (1,10),(2,20),(3,30),(4,40),(5,50);\n")?;
-    assert_eq!(rt; done.status, 0);
-    assert!(rt; are(&done.replies, b"RREFD"));
-    assert_eq!(rt; done.logged, 6);
-    assert_eq!(rt; done.stamps.as_slice(), [1u64].as_slice());
-    Ok(())
-}
-
-#[test]
-fn four_keys_take_two_quanta(rt: HostRuntime) -> Result<(), Fail> {
-    let done = run_scan(rt.alloc(), b"LOAD t (1,10),(2,20),(3,30),(4,40);\n")?;
-    assert_eq!(rt; done.status, 0);
-    assert!(rt; are(&done.replies, b"REFD"));
-    Ok(())
-}
-
-#[test]
-fn no_row_takes_one_quantum(rt: HostRuntime) -> Result<(), Fail> {
-    let done = run_scan(rt.alloc(), b"")?;
-    assert_eq!(rt; done.status, 0);
-    assert!(rt; are(&done.replies, b"EFD"));
-    assert!(rt; are(&done.taken, b"TXN 1 1 COMMITTED 1\nTABLE t\n"));
-    Ok(())
-}
-
-#[test]
-fn an_empty_source_is_no_script(rt: HostRuntime) -> Result<(), Fail> {
-    let done = run_over(
-        rt.alloc(),
-        Vec::new(rt.alloc()),
-        Vec::new(rt.alloc()),
-        AMPLE,
-        WIRES,
-    )?;
-    assert_eq!(rt; (done.status, done.taken.len()), (1, 0));
-    Ok(())
-}
-
-#[test]
-fn a_failed_read_ends_the_run(rt: HostRuntime) -> Result<(), Fail> {
-    let script = script_of(rt.alloc(), b"")?;
-    let fails = vec![in rt.alloc(); 1u64]?;
-    let done = run_over(rt.alloc(), script, fails, AMPLE, WIRES)?;
-    assert_eq!(rt; (done.status, done.taken.len()), (3, 0));
-    Ok(())
-}
-
-#[test]
-fn a_full_sink_has_the_front_of_the_text(rt: HostRuntime) -> Result<(), Fail> {
-    let script = script_of(rt.alloc(), b"")?;
-    let done = run_over(rt.alloc(), script, Vec::new(rt.alloc()), 5, WIRES)?;
-    assert_eq!(rt; done.status, 4);
-    assert!(rt; are(&done.taken, b"TXN 1"));
-    Ok(())
-}
-
-#[test]
-fn seven_wires_are_too_few(rt: HostRuntime) -> Result<(), Fail> {
-    let script = script_of(rt.alloc(), b"")?;
-    let length = script.len();
-    let done = run_over(rt.alloc(), script, Vec::new(rt.alloc()), AMPLE, 7)?;
-    assert_eq!(rt; (done.status, done.taken.len()), (2, 0));
-    assert_eq!(rt; done.left, length);
     Ok(())
 }

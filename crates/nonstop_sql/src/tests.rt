@@ -1,45 +1,21 @@
+//! Reading to the end, and writing in pieces.
 ghost use Rattle.std.specs.Prelude.{None};
 
 use super::*;
-use outside::{Failed, MemorySink, MemorySource, Sink};
+use outside::{Failed, MemorySource, Sink};
 use std::test::Fail;
 
-#[test]
-fn reads_a_source_to_its_end(rt: HostRuntime) -> Result<(), Fail> {
-    let bytes = vec![in rt.alloc(); b'x'; 70_000]?;
-    let mut source = MemorySource::new(bytes, Vec::new(rt.alloc()));
-    assert_eq!(rt; read_to_limit(rt.alloc(), &mut source)?.len(), 70_000);
-    assert_eq!(rt; read_to_limit(rt.alloc(), &mut source)?.len(), 0);
-    Ok(())
-}
+/// How many bytes a source has, how many are read of it, and how many of what is left.
+const READS: [(usize, usize, usize); 2] = [(70_000, 70_000, 0), (4_194_310, 4_194_305, 5)];
 
 #[test]
-fn reads_one_byte_more_than_fits(rt: HostRuntime) -> Result<(), Fail> {
-    let bytes = vec![in rt.alloc(); b'x'; 4_194_310]?;
-    let mut source = MemorySource::new(bytes, Vec::new(rt.alloc()));
-    assert_eq!(rt; read_to_limit(rt.alloc(), &mut source)?.len(), 4_194_305);
-    assert_eq!(rt; read_to_limit(rt.alloc(), &mut source)?.len(), 5);
-    Ok(())
-}
-
-#[test]
-fn a_failing_read_is_told(rt: HostRuntime) -> Result<(), Fail> {
-    let bytes = vec![in rt.alloc(); b'x'; 70_000]?;
-    let mut source = MemorySource::new(bytes, vec![in rt.alloc(); 2]?);
-    assert_eq!(rt;
-        read_to_limit(rt.alloc(), &mut source),
-        Err(ReadError::Failed)
-    );
-    assert_eq!(rt; read_to_limit(rt.alloc(), &mut source)?.len(), 4_464);
-    Ok(())
-}
-
-#[test]
-fn a_full_sink_has_the_front(rt: HostRuntime) -> Result<(), Fail> {
-    let mut sink = MemorySink::new(rt.alloc(), 5, Vec::new(rt.alloc()))?;
-    assert_eq!(rt; write_all(&mut sink, b"abc"), Ok(()));
-    assert_eq!(rt; write_all(&mut sink, b"defg"), Err(Failed));
-    assert_eq!(rt; sink.taken(), b"abcde".as_slice());
+fn sources_are_read_to_their_end(rt: HostRuntime) -> Result<(), Fail> {
+    for (length, first, rest) in &READS {
+        let bytes = vec![in rt.alloc(); b'x'; *length]?;
+        let mut source = MemorySource::new(bytes, Vec::new(rt.alloc()));
+        assert_eq!(rt; read_to_limit(rt.alloc(), &mut source)?.len(), *first);
+        assert_eq!(rt; read_to_limit(rt.alloc(), &mut source)?.len(), *rest);
+    }
     Ok(())
 }
 

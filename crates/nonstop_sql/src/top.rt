@@ -1,22 +1,23 @@
 //! The top call: from the words, the source and the wires to the sink.
-ghost use Rattle.std.specs.Prelude.{◌≡◌, ◌≤◌, ◌<◌, ◌↔◌, ◌⊎◌, vec_len, IfOk};
+ghost use Rattle.std.specs.Prelude.{◌≡◌, ◌≤◌, ◌<◌, ◌↔◌, ◌⊎◌, vec_len, IfOk, IsSome};
 ghost use Rattle.std.specs.Io.KnownBytes.{Keeps};
-ghost use Rattle.one_thread.specs.Answer.{answer_text};
-ghost use Rattle.run_record.specs.Headline.{Headline};
-ghost use Rattle.statement_reader.specs.Thin.{IsThin};
+ghost use Rattle.thin_scripts.specs.Thin.{IsThin};
+ghost use Rattle.statement_reader.specs.Spells.{Spells};
 ghost use Rattle.nonstop_sql.specs.Commands.{IsSteps};
-ghost use Rattle.nonstop_sql.specs.Steps.{Runs, RunsBytes, StepsEnds, refusal_of};
+ghost use Rattle.nonstop_sql.specs.Steps.{IsRan, Runs, RunsBytes, StepsEnds, refusal_of};
 
+use crate::checks::PlainChecks;
 use crate::commands::{Command, command_of};
 use crate::input::{ReadError, read_to_limit};
-use crate::outcome::Outcome;
+use crate::outcome::{Outcome, Refusal};
 use crate::output::write_all;
 use outside::{Collector, Gate, Sink, Source, Wire};
-use run_record::{RunRecord, text};
+use run_record::RunRecord;
 use sql_base::{NoMemory, Script};
 use statement_reader::{ReadFault, read_script};
 use std::alloc::Global;
-use step_world::drive;
+use step_world::{drive, text};
+use thin_scripts::is_thin;
 
 /// How many wires a run is handed, one for each session that a script may have.
 pub const WIRES: usize = 8;
@@ -33,11 +34,13 @@ pub fn run<S: Source, K: Sink, G: Gate>(
     wires: Vec<Box<dyn Wire + Send>>,
     collectors: &mut Vec<Box<dyn Collector>>,
 ) -> Outcome
-    ensures refused { (result.status ≡ 2) ↔ ((IsSteps words.now → ⊥) ⊎ (vec_len wires < WIRES)) }
+    ensures refused { (result.status ≡ 2) ↔ ((IsSteps words.now → ⊥) ⊎ (vec_len wires < 8)) }
     ensures untouched { result.status ≡ 2 → (source.new ≡ source.old) × (sink.new ≡ sink.old) }
     ensures unread { result.status ≡ 2 → Keeps (S.left source.old) (S.left source.new) × Keeps (K.taken sink.old) (K.taken sink.new) }
+    ensures kept { (result.status ≡ 0) ↔ IsSome result.kept }
+    ensures fault { (result.status ≡ 1) ↔ IsSome result.fault }
     ensures unseen { collectors.new ≡ collectors.old }
-    ensures ran { IsSteps words.now → WIRES ≤ vec_len wires →
+    ensures ran { IsSteps words.now → 8 ≤ vec_len wires →
         StepsEnds (S.left source.old) (S.left source.new) (S.faults source.old) (S.faults source.new)
         (K.taken sink.old) (K.taken sink.new) (K.faults sink.old) (K.faults sink.new) result }
 {
@@ -59,7 +62,7 @@ pub fn run_alone<S: Source, K: Sink>(
     wires: Vec<Box<dyn Wire + Send>>,
     collectors: &mut Vec<Box<dyn Collector>>,
 ) -> Outcome
-    requires { WIRES ≤ vec_len wires }
+    requires { 8 ≤ vec_len wires }
     ensures unseen { collectors.new ≡ collectors.old }
     ensures ran { StepsEnds (S.left source.old) (S.left source.new) (S.faults source.old) (S.faults source.new)
         (K.taken sink.old) (K.taken sink.new) (K.faults sink.old) (K.faults sink.new) result }
@@ -85,9 +88,21 @@ fn steps<S: Source, K: Sink>(alloc: Global, source: &mut S, sink: &mut K) -> Out
 fn run_bytes<K: Sink>(alloc: Global, bytes: &[u8], sink: &mut K) -> Outcome
     ensures { RunsBytes bytes.now (K.taken sink.old) (K.taken sink.new) (K.faults sink.old) (K.faults sink.new) result }
 {
-    match read_script(alloc, bytes) {
-        Ok(script) => run_script(alloc, &script, sink),
+    match read_script(alloc, &PlainChecks, bytes) {
+        Ok(script) => run_read(alloc, &script, sink, bytes),
         Err(error) => refuse(error),
+    }
+}
+
+/// Runs a script that was read, where it is of the form that is run so far.
+fn run_read<K: Sink>(alloc: Global, script: &Script, sink: &mut K, bytes: &[u8]) -> Outcome
+    requires { Spells bytes.now script.now }
+    ensures { RunsBytes bytes.now (K.taken sink.old) (K.taken sink.new) (K.faults sink.old) (K.faults sink.new) result }
+{
+    if is_thin(script) {
+        run_script(alloc, script, sink)
+    } else {
+        Outcome::refused(Refusal::NotYet)
     }
 }
 
@@ -96,7 +111,7 @@ fn refuse(error: ReadFault) -> Outcome
     ensures { result ≡ refusal_of error }
 {
     match error {
-        ReadFault::Script(fault) => Outcome::refused(fault),
+        ReadFault::Script(fault) => Outcome::refused(Refusal::Script(fault)),
         ReadFault::NoMemory => Outcome::bare(5),
     }
 }
@@ -121,8 +136,7 @@ fn run_script<K: Sink>(alloc: Global, script: &Script, sink: &mut K) -> Outcome
 /// What a run of the script kept, and its text.
 fn kept_and_text(alloc: Global, script: &Script) -> Result<(RunRecord, Vec<u8>), NoMemory>
     requires { IsThin script.now }
-    ensures headline { IfOk result (λ r. Headline script.now r.0) }
-    ensures text { IfOk result (λ r. r.1.items ≡ answer_text script.now) }
+    ensures { IfOk result (λ r. IsRan script.now r.0 r.1.items) }
 {
     let kept = drive(alloc, script)?;
     let output = text(alloc, script, &kept)?;

@@ -2,3 +2,20 @@ pub mod Lines
 pub mod Tables
 pub mod Numbers
 mod WorkedRows
+pub mod Comparing
+pub mod Failing
+pub mod Written
+pub mod Rising
+pub mod Passing
+pub mod Parts
+pub mod Spots
+pub mod Fates
+pub mod Sweeps
+pub mod Changed
+pub mod Keeping
+pub mod Splitting
+pub mod Doing
+pub mod Moving
+pub mod Running
+pub mod Loaded
+pub mod Showing

@@ -1,6 +1,6 @@
 -- Statements and transactions in one thread.
-use Rattle.std.specs.Prelude.{ℕ, List, [], ◌∷◌, ◌++◌, length, map, filter, count_by, flat_map, slice_get, slice_set, Option, Some, None, option_map, unwrap_or, Bool, true, false, not, ◌&&◌, ◌==◌, Result, Ok, Err, if◌then◌else◌}
-use Rattle.std.specs.List.{list_any, range_with_len}
+use Rattle.std.specs.Prelude.{◌≡◌, ℕ, List, [], ◌∷◌, ◌++◌, length, map, filter, count_by, flat_map, slice_get, slice_set, Option, Some, None, option_map, unwrap_or, Bool, true, false, not, ◌&&◌, ◌==◌, Result, Ok, Err, if◌then◌else◌}
+use Rattle.std.specs.List.{filter_map, list_any, range_with_len}
 use Rattle.sql_base.specs.Keys.{key_lt, key_eq}
 use Rattle.sql_base.specs.Rows.{chosen, kinds, key_of, packed}
 use Rattle.sql_base.specs.Val.{Outcome, filter_val, IsTruth}
@@ -107,6 +107,61 @@ one_on table (Insert t row) rows =
     done_unless (sooner (duplicate table row rows) (option_map (Faulted (key_of table row)) (first_failing table.checks row))) rows
     (record { given = Ok Silent; records = placed table row rows })
 one_on table (LockTable t mode) rows = record { given = Ok Silent; records = rows }
+
+-- ---- SELECT, UPDATE and DELETE as one case: each row has one fate
+
+-- the predicate of a statement that looks at rows
+abbrev pub predicate_of : Statement → Option Expr
+predicate_of (Select t columns predicate access) = predicate
+predicate_of (Update t sets predicate access) = predicate
+predicate_of (Delete t predicate access) = predicate
+predicate_of other = None
+
+-- the fault of a row, which for an UPDATE is also that of its new row
+abbrev pub statement_fault : TableDef → Statement → List Value → Option Fault
+statement_fault table (Select t columns predicate access) row = fault_on (filter_val predicate row) None
+statement_fault table (Update t sets predicate access) row = fault_on (filter_val predicate row) (new_row_fault table (updated table sets row))
+statement_fault table (Delete t predicate access) row = fault_on (filter_val predicate row) None
+statement_fault table other row = None
+
+-- what becomes of a row that the statement selects
+abbrev pub became : TableDef → Statement → List Value → Option (List Value)
+became table (Update t sets predicate access) row = Some (row_after table sets row)
+became table (Delete t predicate access) row = None
+became table other row = Some row
+
+abbrev pub fate : TableDef → Statement → List Value → Option (List Value)
+fate table s row = if selects table (predicate_of s) row then became table s row else Some row
+
+-- the key and fault of the first row of the range that faults
+abbrev pub fault_in : TableDef → Statement → Records → Option Abort
+fault_in table s [] = None
+fault_in table s (row ∷ rows) =
+    sooner (if is_in (range table (predicate_of s)) (key_of table row) then option_map (Faulted (key_of table row)) (statement_fault table s row) else None) (fault_in table s rows)
+
+-- what a statement gives of the rows that it selects
+abbrev pub given_of : TableDef → Statement → Records → Given
+given_of table (Select t columns predicate access) rows = Rows (chosen columns (kinds table)) (map (packed columns) rows)
+given_of table (Update t sets predicate access) rows = Count (length rows)
+given_of table (Delete t predicate access) rows = Count (length rows)
+given_of table other rows = Silent
+
+abbrev pub scanned : TableDef → Statement → Records → Done
+scanned table s rows =
+    done_unless (fault_in table s rows) rows (record { given = Ok (given_of table s (filter (selects table (predicate_of s)) rows)); records = filter_map (fate table s) rows })
+
+-- a statement that looks at the rows of a range
+abbrev pub IsScan : Statement → Type 0
+IsScan (Select t columns predicate access) = Unit {0}
+IsScan (Update t sets predicate access) = Unit {0}
+IsScan (Delete t predicate access) = Unit {0}
+IsScan other = ⊥
+
+-- the law: they are that one case
+abbrev pub ScansAreOne : Type 0
+ScansAreOne = (table : TableDef) (s : Statement) (rows : Records) → IsScan s → one_on table s rows ≡ scanned table s rows
+
+-- ---- worlds
 
 -- the tables and their records
 pub record World : Type 0 where

@@ -1,3 +1,5 @@
+//! The calls of an end in memory.
+
 ghost use Rattle.std.specs.Prelude.{◌≡◌, ◌↔◌, IsErr, OnOk, OnErr};
 ghost use Rattle.outside.specs.Calls.{FailsNext, no_call, succeeded, failed};
 ghost use Rattle.outside.specs.Counter.{raised};

@@ -1,3 +1,5 @@
+//! What sees the entries of a log.
+
 ghost use Rattle.std.specs.Prelude.{◌≡◌, ℕ, List, ◌++◌, OnOk, OnErr};
 ghost use Rattle.std.specs.Io.{StartsWith};
 ghost use Rattle.outside.specs.declared.collector.Seen.{Seen};

@@ -1,3 +1,5 @@
+//! Why the outside did not do what was asked.
+
 use std::alloc::AllocError;
 
 /// A read or a write that the outside did not carry out.

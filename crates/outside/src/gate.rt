@@ -1,3 +1,5 @@
+//! What hears of the turns of partitions.
+
 /// Where a server of a partition stands.
 #[derive(Clone, Copy, Debug, PartialEq, Eq)]
 pub enum Point {

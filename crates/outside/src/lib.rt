@@ -19,7 +19,4 @@ pub use sink::standard::StdSink;
 pub use source::Source;
 pub use source::memory::MemorySource;
 pub use source::standard::StdSource;
-pub use wire::{Cycle, Passage, Wire};
-
-#[cfg(test)]
-mod tests;
+pub use wire::{Cycle, Listed, Passage, Wire};

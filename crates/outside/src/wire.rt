@@ -1,5 +1,8 @@
-ghost use Rattle.std.specs.Prelude.{◌≡◌, ◌≢◌, ◌≤◌, List, [], length, drop};
+//! What becomes of messages on their way.
+
+ghost use Rattle.std.specs.Prelude.{◌≡◌, ◌≢◌, ◌≤◌, List, [], ◌∷◌, length, drop};
 ghost use Rattle.outside.specs.declared.wire.Passage.{Passage};
+ghost use Rattle.outside.specs.declared.wire.Passage.TheVariants.{Carry};
 
 /// What becomes of a message that is sent.
 #[derive(Clone, Copy, Debug, PartialEq, Eq)]
@@ -72,6 +75,44 @@ impl Wire for Cycle {
     fn pass(&mut self) -> Passage {
         if self.next == self.answers.len() {
             self.next = 0;
+        }
+        let answer = self.answers[self.next];
+        self.next += 1;
+        answer
+    }
+}
+
+/// A wire that tells a list of answers once, and `Carry` from then on.
+#[derive(Debug, Drop)]
+pub struct Listed {
+    answers: Vec<Passage>,
+    next: usize,
+    ghost in_range: { next ≤ length answers.items },
+}
+
+impl Listed {
+    /// The wire that tells the answers of the list in order, and then `Carry`.
+    pub fn new(list: Vec<Passage>) -> Listed
+        ensures first { ⟦<Listed as Wire>⟧.first result ≡ list.items }
+        ensures round { ⟦<Listed as Wire>⟧.round result ≡ Carry ∷ [] }
+    {
+        Listed {
+            answers: list,
+            next: 0,
+        }
+    }
+}
+
+impl Wire for Listed {
+    ghost first = { λ listed. drop listed.next listed.answers.items };
+
+    ghost round = { λ _. Carry ∷ [] };
+
+    fn start(&mut self, _number: u64) {}
+
+    fn pass(&mut self) -> Passage {
+        if self.next == self.answers.len() {
+            return Passage::Carry;
         }
         let answer = self.answers[self.next];
         self.next += 1;

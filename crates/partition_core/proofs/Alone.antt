@@ -16,17 +16,17 @@ use Rattle.dp_messages.specs.declared.requests.Ask.{Ask}
 use Rattle.dp_messages.specs.declared.requests.Ask.TheVariants.{Continue, Prepare, EndCommit}
 use Rattle.dp_messages.specs.declared.requests.Request.{Request}
 use Rattle.partition_core.specs.Alone.{Reader, Phase, Fresh, Partway, Whole, Ready, Over, ReadBy, Suits, Shows, AsksOn, ReadOn, by_reader, begin_ask, rows_between}
-use Rattle.partition_core.specs.History.{replay, before}
+use Rattle.partition_state.specs.History.{replay, before}
 use Rattle.partition_core.specs.Kept.{Kept, served, opener_in, entry_of}
-use Rattle.partition_core.specs.State.{State, Opener, opener_of, opening}
-use Rattle.partition_core.specs.Step.{step, Stepped, Answered, answered}
-use Rattle.partition_core.specs.declared.entries.Entry.{Entry}
+use Rattle.partition_state.specs.State.{State, Opener, opener_of, opening}
+use Rattle.partition_state.specs.Step.{step, Stepped, Answered, answered}
+use Rattle.partition_state.specs.declared.entries.Entry.{Entry}
 use Rattle.partition_core.proofs.AloneEnds.{answered-prepare, leaves-prepare, answered-commit, leaves-commit}
 use Rattle.partition_core.proofs.AloneReads.{answered-begin, answered-continue}
 use Rattle.partition_core.proofs.AloneRows.{rows_shown, rows_from}
 use Rattle.partition_core.proofs.AloneSteps.{stands, at_its_stand, step-read, opened-fresh}
 use Rattle.partition_core.proofs.AloneOpeners.{counts-answered, opener_of-with}
-use Rattle.partition_core.proofs.Replays.{step-new}
+use Rattle.partition_state.proofs.Replays.{step-new}
 
 -- a partition as it opens has been read by nobody
 pub opened-read : (r : Reader) (table : TableDef) (place : ℕ) (limits : Limits) (rows : List (List Value)) → Lies 1 8 r.name.session → ReadBy r Fresh 0 (opening table place limits rows) (opening table place limits rows)

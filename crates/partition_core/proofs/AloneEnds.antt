@@ -8,9 +8,9 @@ use Rattle.key_sequenced.specs.Cells.{settled}
 use Rattle.dp_messages.specs.declared.replies.Reply.TheVariants.{Done, Floor, NotKnown, StampLow}
 use Rattle.dp_messages.specs.declared.requests.Ask.TheVariants.{Prepare, EndCommit}
 use Rattle.partition_core.specs.Alone.{Reader, Whole, Ready, Over, ReadBy, Suits}
-use Rattle.partition_core.specs.State.{State, Opener, opener_of, floor_of}
-use Rattle.partition_core.specs.Step.{Answered, answered, refused, prepared, prepare_from, commit_above, ended}
-use Rattle.partition_core.specs.declared.lives.Live.{Live}
+use Rattle.partition_state.specs.State.{State, Opener, opener_of, floor_of}
+use Rattle.partition_state.specs.Step.{Answered, answered, refused, prepared, prepare_from, commit_above, ended}
+use Rattle.partition_state.specs.declared.lives.Live.{Live}
 use Rattle.partition_core.proofs.AloneOpeners.{opener_of-with}
 use Rattle.partition_core.proofs.AloneSteps.{Leaves, stands, not_ended, same_txn-itself, own_live, live-own, floor-own, answered-own}
 use Rattle.partition_core.proofs.Serving.{settled-same}

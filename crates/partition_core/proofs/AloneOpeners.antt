@@ -31,9 +31,11 @@ use Rattle.dp_messages.specs.declared.replies.Reply.{Reply}
 use Rattle.dp_messages.specs.declared.replies.Reply.TheVariants.{Done, AfterEnd, AfterPrepare, NotKnown, StampLow, WrongKey, BadCode, BadShape, TooManySubsets}
 use Rattle.dp_messages.specs.declared.requests.Ask.{Ask}
 use Rattle.dp_messages.specs.declared.requests.Ask.TheVariants.{BeginRead, BeginUpdate, BeginDelete, Continue, ReadKey, Insert, LockGranule, Prepare, EndCommit, EndUndo}
-use Rattle.partition_core.specs.State.{State, Opener, new_opener, opener_of, with_opener, with_live, is_live, floor_of}
-use Rattle.partition_core.specs.Step.{Answered, refused, filter_of, sets_of, set_work, is_key_here, is_shaped, are_columns_here, may_change, kept_key, as_row, against_granule, begins, other_live, with_granule, after_first, first_quantum, begin_with, begin, after_next, goes_on, read_key, insert_checked, insert_beside, insert_against, insert_row, lock_against, lock_granule, prepare_from, prepare, ended, commit_above, end_commit, by_kind, is_closing, unless_prepared, unless_other, answered}
-use Rattle.partition_core.specs.declared.lives.Live.{Live}
+use Rattle.partition_state.specs.State.{State, Opener, new_opener, opener_of, with_opener, with_live, is_live, floor_of}
+use Rattle.partition_state.specs.Step.{Answered, refused, set_work, is_key_here, is_shaped, are_columns_here, may_change, kept_key, as_row, against_granule, begins, other_live, with_granule, after_first, first_quantum, begin_with, begin, after_next, goes_on, read_key, insert_checked, insert_beside, insert_against, insert_row, lock_against, lock_granule, prepare_from, prepare, ended, commit_above, end_commit, by_kind, is_closing, unless_prepared, unless_other, answered}
+use Rattle.predicate_codes.specs.Decoding.{filter_of}
+use Rattle.predicate_codes.specs.SetLists.{sets_of}
+use Rattle.partition_state.specs.declared.lives.Live.{Live}
 
 -- as many openers as before
 record Counts (p : State) (a : Answered) : Type 0 where

@@ -17,19 +17,19 @@ use Rattle.subset_blocks.specs.Blocks.{find_block}
 use Rattle.subset_blocks.specs.declared.Block.{Block}
 use Rattle.subset_blocks.specs.declared.Numbered.{Numbered}
 use Rattle.quantum_core.specs.Quantum.{Handled, quantum}
-use Rattle.quantum_core.specs.Verdicts.{is_from}
+use Rattle.sql_base.specs.Keys.{is_from}
 use Rattle.quantum_core.specs.declared.replies.QuantumReply.{QuantumReply}
 use Rattle.quantum_core.specs.declared.replies.QuantumReply.TheVariants as answers
 use Rattle.quantum_core.specs.declared.works.SetWork.{SetWork}
-use Rattle.quantum_core.proofs.KeyOrders.{key_eq-refl}
+use Rattle.sql_base.proofs.KeyOrders.{key_eq-refl}
 use Rattle.quantum_core.proofs.OpenReads.{IsOpen, ShowsWindow, quantum-open}
 use Rattle.quantum_core.proofs.Windows.{in_window, window, rows_in}
 use Rattle.dp_messages.specs.declared.replies.Reply.TheVariants.{AfterEnd, BadShape, WrongKey}
 use Rattle.dp_messages.specs.declared.requests.Ask.TheVariants.{Continue}
 use Rattle.partition_core.specs.Alone.{Reader, Phase, Fresh, Partway, Whole, ReadBy, Suits, Shows, rows_between, granule_lock, own_block, begin_ask}
 use Rattle.partition_core.specs.Contents.{reading}
-use Rattle.partition_core.specs.State.{State, Opener, opener_of, with_live}
-use Rattle.partition_core.specs.Step.{Answered, answered, refused, unless_other, other_live, begin_with, after_first, after_next, goes_on, is_shaped, are_columns_here}
+use Rattle.partition_state.specs.State.{State, Opener, opener_of, with_live}
+use Rattle.partition_state.specs.Step.{Answered, answered, refused, unless_other, other_live, begin_with, after_first, after_next, goes_on, is_shaped, are_columns_here}
 use Rattle.partition_core.proofs.AloneSteps.{Leaves, stands, not_ended, same_txn-itself, answered-own}
 use Rattle.partition_core.proofs.ReadQuanta.{quantum-read}
 

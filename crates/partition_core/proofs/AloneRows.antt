@@ -9,13 +9,13 @@ use Rattle.sql_base.specs.declared.key_ranges.Start.{Start}
 use Rattle.sql_base.specs.declared.key_ranges.Start.TheVariants.{At, After}
 use Rattle.key_sequenced.specs.Cells.{AreCells}
 use Rattle.key_sequenced.specs.declared.Cell.{Cell}
-use Rattle.quantum_core.specs.Verdicts.{is_from}
+use Rattle.sql_base.specs.Keys.{is_from}
 use Rattle.quantum_core.proofs.Windows.{window, window-split, rows_in, Ascends-from_rise}
 use Rattle.dp_messages.specs.declared.replies.Reply.{Reply}
 use Rattle.dp_messages.specs.declared.replies.Reply.TheVariants.{Ended, Redrive}
 use Rattle.partition_core.specs.Alone.{Reader, Phase, Fresh, Partway, Whole, Ready, Over, AsksOn, Shows, ReadOn, rows_between}
-use Rattle.partition_core.specs.State.{State}
-use Rattle.partition_core.specs.declared.entries.Entry.{Entry}
+use Rattle.partition_state.specs.State.{State}
+use Rattle.partition_state.specs.declared.entries.Entry.{Entry}
 use Rattle.partition_core.proofs.AloneReads.{rows_between-window}
 
 -- rows up to a key, and those behind it

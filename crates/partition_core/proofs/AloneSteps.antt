@@ -20,11 +20,11 @@ use Rattle.dp_messages.specs.declared.replies.Reply.{Reply}
 use Rattle.dp_messages.specs.declared.replies.Reply.TheVariants.{AfterEnd}
 use Rattle.dp_messages.specs.declared.requests.Ask.{Ask}
 use Rattle.partition_core.specs.Alone.{Reader, Phase, Fresh, ReadBy, own_locks, own_blocks, own_lives, high_in, ended_in, by_reader}
-use Rattle.partition_core.specs.State.{State, Opener, new_opener, opener_of, opening, floor_of}
-use Rattle.partition_core.specs.Step.{Answered, Stepped, answered, refused, other_live, unless_other, unless_prepared, noted, step}
-use Rattle.partition_core.specs.declared.lives.Live.{Live}
+use Rattle.partition_state.specs.State.{State, Opener, new_opener, opener_of, opening, floor_of}
+use Rattle.partition_state.specs.Step.{Answered, Stepped, answered, refused, other_live, unless_other, unless_prepared, noted, step}
+use Rattle.partition_state.specs.declared.lives.Live.{Live}
 use Rattle.partition_core.proofs.AloneOpeners.{opener_of-with}
-use Rattle.partition_core.proofs.Replays.{step-new}
+use Rattle.partition_state.proofs.Replays.{step-new}
 
 -- where a partition stands whose one reader has come to a phase
 abbrev pub stands : Reader → Phase → State → List Opener → State

@@ -25,8 +25,8 @@ use Rattle.quantum_core.specs.declared.replies.QuantumReply.{QuantumReply}
 use Rattle.quantum_core.specs.declared.replies.QuantumReply.TheVariants as answers
 use Rattle.quantum_core.specs.declared.works.SetWork.{SetWork}
 use Rattle.dp_messages.specs.declared.replies.Reply.TheVariants.{Ended, Redrive, BadShape, TooManySubsets}
-use Rattle.partition_core.specs.State.{State, with_live}
-use Rattle.partition_core.specs.Step.{Answered, refused, is_shaped, begin, begins, first_quantum, against_granule, after_first, with_granule, after_next, goes_on, kept_key}
+use Rattle.partition_state.specs.State.{State, with_live}
+use Rattle.partition_state.specs.Step.{Answered, refused, is_shaped, begin, begins, first_quantum, against_granule, after_first, with_granule, after_next, goes_on, kept_key}
 use Rattle.partition_core.specs.Changes.{tells, locks_with, granule_wanted, still_handled, FitsOpened}
 use Rattle.partition_core.specs.Contents.{Parts}
 use Rattle.partition_core.specs.declared.changes.Change.TheVariants.{Begins}

@@ -5,13 +5,13 @@ use Rattle.std.proofs.lemmas.Bool.Decides.{nat_tests}
 use Rattle.sql_base.specs.declared.lock_names.TxnName.{TxnName}
 use Rattle.sql_base.specs.declared.faults.NoMemory.{NoMemory}
 use Rattle.dp_messages.specs.declared.requests.Ask.{Ask}
-use Rattle.partition_core.specs.State.{State, Opener, opener_of, floor_of}
-use Rattle.partition_core.specs.Step.{answered, unless_other, unless_prepared, other_live}
+use Rattle.partition_state.specs.State.{State, Opener, opener_of, floor_of}
+use Rattle.partition_state.specs.Step.{answered, unless_other, unless_prepared, other_live}
 use Rattle.partition_core.specs.Contents.{Parts, state_of}
 use Rattle.partition_core.specs.Changes.{tells}
 use Rattle.partition_core.specs.declared.changes.Judgement.{Judgement}
 use Rattle.partition_core.specs.declared.contents.Seat.{Seat}
-use Rattle.partition_core.specs.declared.lives.Live.{Live}
+use Rattle.partition_state.specs.declared.lives.Live.{Live}
 use Rattle.partition_core.proofs.Serving.{opener_seated}
 
 above : (ordinal ended : ℕ) → ended < ordinal → nat_le ordinal ended ≡ false

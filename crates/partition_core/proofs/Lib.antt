@@ -14,4 +14,3 @@ pub mod ReadQuanta
 pub mod Replays
 pub mod Seats
 pub mod Serving
-mod WorkedRows

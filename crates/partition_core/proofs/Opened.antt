@@ -11,7 +11,7 @@ use Rattle.sql_base.specs.declared.tables.TableDef.{TableDef}
 use Rattle.sql_base.specs.declared.values.Value.{Value}
 use Rattle.sql_base.proofs.KeyColumns.{are_of_kinds-length}
 use Rattle.key_sequenced.specs.declared.Cell.{Cell}
-use Rattle.partition_core.specs.State.{new_cell}
+use Rattle.partition_state.specs.State.{new_cell}
 use Rattle.partition_core.specs.Contents.{Parts, IsServing, HasRow}
 use Rattle.partition_core.specs.declared.contents.Seat.{Seat}
 

@@ -1,10 +1,11 @@
 -- A quantum that reads changes nothing.
 use Rattle.std.proofs.Common.{◌≡◌, ◌<◌, ℕ, zero, suc, List, [], ◌∷◌, length, take, map, Option, None, Bool, true, false, ◌&&◌, cond, refl, ap, sym, ◌∙◌, arith}
-use Rattle.std.specs.Prelude.{nat_lt}
+use Rattle.std.specs.Prelude.{nat_eq, nat_lt}
 use Rattle.std.specs.List.{AllByRecursion, list_all}
 use Rattle.std.proofs.lemmas.Bool.{false≢true}
 use Rattle.std.proofs.lemmas.Bool.Decides.{nat_tests}
 use Rattle.std.proofs.lemmas.List.Elements.{All-from_recursion}
+use Rattle.sql_base.specs.Tables.{all_differ}
 use Rattle.sql_base.specs.Keys.{key_eq}
 use Rattle.sql_base.specs.declared.lock_names.Lock.{Lock}
 use Rattle.sql_base.specs.declared.lock_names.TxnName.{TxnName}
@@ -85,11 +86,11 @@ within n m (c ∷ columns) e h =
     (grind (arith, nat_tests), within n m columns e (and_right (nat_lt c n) _ h))
 
 -- columns of the table are in each of its rows
-pub columns_here : (count : ℕ) (columns : List ℕ) (cells : List Cell) → (nat_lt 0 (length columns) && list_all (λ c. nat_lt c count) columns) ≡ true → AllByRecursion (HasRow count) cells → AllByRecursion (HasColumns (reading columns)) cells
+pub columns_here : (count : ℕ) (columns : List ℕ) (cells : List Cell) → (nat_lt 0 (length columns) && (list_all (λ c. nat_lt c count) columns && all_differ nat_eq columns)) ≡ true → AllByRecursion (HasRow count) cells → AllByRecursion (HasColumns (reading columns)) cells
 columns_here count columns [] here rows = tt
 columns_here count columns (cell ∷ cells) here rows = (
   (λ cs row is_read stands.
       let same : columns ≡ cs = cc in
-      All-from_recursion (λ c. c < length row) cs (within count (length row) cs (rows.0 row stands) (ap (λ xs. list_all (λ c. nat_lt c count) xs) (sym same) ∙ and_right (nat_lt 0 (length columns)) _ here))),
+      All-from_recursion (λ c. c < length row) cs (within count (length row) cs (rows.0 row stands) (ap (λ xs. list_all (λ c. nat_lt c count) xs) (sym same) ∙ and_left (list_all (λ c. nat_lt c count) columns) _ (and_right (nat_lt 0 (length columns)) _ here)))),
   columns_here count columns cells here rows.1,
 )

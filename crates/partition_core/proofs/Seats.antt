@@ -3,11 +3,11 @@ use Rattle.std.proofs.Common.{◌≡◌, ◌<◌, ℕ, zero, suc, List, [], ◌�
 use Rattle.std.specs.Prelude.{slice_get, slice_set, unwrap_or, option_map, option_and_then}
 use Rattle.std.specs.List.{AllByRecursion}
 use Rattle.std.proofs.lemmas.List.{length_push}
-use Rattle.partition_core.specs.State.{Opener, new_opener}
+use Rattle.partition_state.specs.State.{Opener, new_opener}
 use Rattle.partition_core.specs.Contents.{seated, note_at, HasEntry, IsSeat}
 use Rattle.partition_core.specs.Changes.{at_seat}
 use Rattle.partition_core.specs.declared.contents.Seat.{Seat}
-use Rattle.partition_core.specs.declared.entries.Entry.{Entry}
+use Rattle.partition_state.specs.declared.entries.Entry.{Entry}
 
 slice_get-before : {X : Type 0} (xs : List X) (x : X) (i : ℕ) → i < length xs → slice_get (xs ++ x ∷ []) i ≡ slice_get xs i
 slice_get-before [] x i lt = absurd (omega arith)

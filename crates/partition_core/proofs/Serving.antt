@@ -9,8 +9,8 @@ use Rattle.key_sequenced.specs.Cells.{settled, ending}
 use Rattle.key_sequenced.specs.declared.Cell.{Cell}
 use Rattle.subset_blocks.specs.Blocks.{closed_of}
 use Rattle.dp_messages.specs.declared.requests.Request.{Request}
-use Rattle.partition_core.specs.State.{State, Opener, new_opener, opener_of}
-use Rattle.partition_core.specs.Step.{Answered, Stepped, step, answered, noted}
+use Rattle.partition_state.specs.State.{State, Opener, new_opener, opener_of}
+use Rattle.partition_state.specs.Step.{Answered, Stepped, step, answered, noted}
 use Rattle.partition_core.specs.Kept.{Kept, IsReplayed, served, entry_of}
 use Rattle.partition_core.specs.Contents.{Parts, state_of, kept_of, seated, AreStill, AreReads, IsServing, IsSeat, ReadsColumns}
 use Rattle.partition_core.specs.Changes.{after, tells, changed, noted_parts, IsFitting}
@@ -18,9 +18,11 @@ use Rattle.partition_core.specs.declared.changes.Change.{Change}
 use Rattle.partition_core.specs.declared.changes.Change.TheVariants.{Stays, Begins, Advances, Closes, Prepares, Commits}
 use Rattle.partition_core.specs.declared.changes.Judgement.{Judgement}
 use Rattle.partition_core.specs.declared.contents.Seat.{Seat}
-use Rattle.partition_core.specs.declared.entries.Entry.{Entry}
-use Rattle.partition_core.proofs.Blocks.{kept-filter, kept-push, NumbersDiffer-filter, NumbersDiffer-push, NumbersDiffer-advanced, ReadsColumns-advanced}
-use Rattle.partition_core.proofs.Replays.{IsReplayed-served, step-new}
+use Rattle.partition_state.specs.declared.entries.Entry.{Entry}
+use Rattle.subset_blocks.proofs.BlockLists.{kept-filter, kept-push, NumbersDiffer-filter, NumbersDiffer-push, NumbersDiffer-advanced}
+use Rattle.partition_core.proofs.Blocks.{ReadsColumns-advanced}
+use Rattle.partition_core.proofs.Replays.{IsReplayed-served}
+use Rattle.partition_state.proofs.Replays.{step-new}
 use Rattle.partition_core.proofs.Seats.{seated-at, seated-noted, length-at_seat, IsSeat-noted, IsSeat-ended}
 
 pub settled-same : (t : TxnName) (cells : List Cell) → AllByRecursion (λ cell. cell.writer ≡ None) cells → settled t cells ≡ cells

@@ -14,7 +14,7 @@ use Rattle.sql_base.specs.declared.lock_names.TxnName.{TxnName}
 use Rattle.key_sequenced.specs.Cells.{AreCells, records}
 use Rattle.key_sequenced.specs.declared.Cell.{Cell}
 use Rattle.subset_blocks.specs.declared.Numbered.{Numbered}
-use Rattle.quantum_core.specs.Verdicts.{is_from}
+use Rattle.sql_base.specs.Keys.{is_from}
 use Rattle.quantum_core.specs.declared.works.SetWork.{SetWork}
 use Rattle.dp_messages.specs.declared.replies.Reply.{Reply}
 use Rattle.dp_messages.specs.declared.replies.Reply.TheVariants.{Ended, Redrive}
@@ -22,10 +22,10 @@ use Rattle.dp_messages.specs.declared.requests.Ask.{Ask}
 use Rattle.dp_messages.specs.declared.requests.Ask.TheVariants.{BeginRead, Continue}
 use Rattle.dp_messages.specs.declared.requests.Request.{Request}
 use Rattle.partition_core.specs.Contents.{reading}
-use Rattle.partition_core.specs.State.{State, opener_of}
-use Rattle.partition_core.specs.Step.{are_columns_here, is_shaped}
-use Rattle.partition_core.specs.declared.entries.Entry.{Entry}
-use Rattle.partition_core.specs.declared.lives.Live.{Live}
+use Rattle.partition_state.specs.State.{State, opener_of}
+use Rattle.partition_state.specs.Step.{are_columns_here, is_shaped}
+use Rattle.partition_state.specs.declared.entries.Entry.{Entry}
+use Rattle.partition_state.specs.declared.lives.Live.{Live}
 
 -- the transaction, the granule that it locks, and what it reads
 pub record Reader : Type 0 where

@@ -13,14 +13,14 @@ use Rattle.subset_blocks.specs.declared.Numbered.{Numbered}
 use Rattle.quantum_core.specs.Quantum.{Handled}
 use Rattle.quantum_core.specs.declared.replies.QuantumReply.{QuantumReply}
 use Rattle.quantum_core.specs.declared.works.SetWork.{SetWork}
-use Rattle.partition_core.specs.State.{State, enlisted}
-use Rattle.partition_core.specs.Step.{Answered, ended, mode_of, prepared}
+use Rattle.partition_state.specs.State.{State, enlisted}
+use Rattle.partition_state.specs.Step.{Answered, ended, mode_of, prepared}
 use Rattle.partition_core.specs.Contents.{Parts, ReadsColumns, note_at}
 use Rattle.partition_core.specs.declared.changes.Change.{Change}
 use Rattle.partition_core.specs.declared.changes.Change.TheVariants.{Stays, Begins, Advances, Closes, Prepares, Commits}
 use Rattle.partition_core.specs.declared.changes.Judgement.{Judgement}
 use Rattle.partition_core.specs.declared.contents.Seat.{Seat}
-use Rattle.partition_core.specs.declared.entries.Entry.{Entry}
+use Rattle.partition_state.specs.declared.entries.Entry.{Entry}
 
 abbrev pub locks_with : Option Lock → List Lock → List Lock
 locks_with None locks = locks

@@ -12,12 +12,12 @@ use Rattle.subset_blocks.specs.declared.Numbered.{Numbered}
 use Rattle.quantum_core.specs.Walk.{IsRead, HasColumns}
 use Rattle.quantum_core.specs.declared.works.SetWork.{SetWork}
 use Rattle.quantum_core.specs.declared.works.Doing.TheVariants.{Read}
-use Rattle.partition_core.specs.State.{State, Opener, new_opener}
+use Rattle.partition_state.specs.State.{State, Opener, new_opener}
 use Rattle.partition_core.specs.Kept.{Kept, IsReplayed}
 use Rattle.partition_core.specs.declared.contents.Contents.{Contents}
 use Rattle.partition_core.specs.declared.contents.Seat.{Seat}
-use Rattle.partition_core.specs.declared.entries.Entry.{Entry}
-use Rattle.partition_core.specs.declared.lives.Live.{Live}
+use Rattle.partition_state.specs.declared.entries.Entry.{Entry}
+use Rattle.partition_state.specs.declared.lives.Live.{Live}
 
 -- the fields as lists, whatever room they have
 pub record Parts : Type 0 where

@@ -4,10 +4,10 @@ use Rattle.sql_base.specs.declared.values.Value.{Value}
 use Rattle.dp_messages.specs.declared.requests.Ask.{Ask}
 use Rattle.dp_messages.specs.declared.requests.Ask.TheVariants.{BeginRead, BeginUpdate, BeginDelete, Continue, ReadKey, Insert, LockGranule, Prepare, EndCommit, EndUndo}
 use Rattle.dp_messages.specs.declared.requests.Request.{Request}
-use Rattle.partition_core.specs.State.{State, Opener, opener_of}
-use Rattle.partition_core.specs.Step.{step, answered}
-use Rattle.partition_core.specs.History.{IsLegal, replay}
-use Rattle.partition_core.specs.declared.entries.Entry.{Entry}
+use Rattle.partition_state.specs.State.{State, Opener, opener_of}
+use Rattle.partition_state.specs.Step.{step, answered}
+use Rattle.partition_state.specs.History.{IsLegal, replay}
+use Rattle.partition_state.specs.declared.entries.Entry.{Entry}
 use Rattle.partition_core.specs.declared.partitions.Served.{Served}
 use Rattle.partition_core.specs.declared.partitions.Served.TheVariants.{New, Repeat, Old, Starved}
 use Rattle.partition_core.specs.declared.partitions.Pick.{Pick}

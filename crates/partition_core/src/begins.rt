@@ -3,8 +3,8 @@ ghost use Rattle.std.specs.Prelude.{◌≡◌, ◌<◌, length, All, IfOk, Some,
 ghost use Rattle.quantum_core.specs.Walk.{IsRead, HasColumns};
 ghost use Rattle.partition_core.specs.Contents.{state_of, parts_of, AreStill, reading};
 ghost use Rattle.partition_core.specs.Changes.{tells, IsFitting, granule_wanted, still_handled};
-ghost use Rattle.partition_core.specs.State.{with_live};
-ghost use Rattle.partition_core.specs.Step.{begin, begins, first_quantum, after_first, against_granule, are_columns_here, mode_of};
+ghost use Rattle.partition_state.specs.State.{with_live};
+ghost use Rattle.partition_state.specs.Step.{begin, begins, first_quantum, after_first, against_granule, are_columns_here, mode_of};
 ghost use Rattle.subset_blocks.specs.Blocks.{most_blocks};
 ghost use Rattle.sql_base.specs.declared.key_ranges.Start.TheVariants.{At, After};
 
@@ -40,12 +40,12 @@ impl Contents {
         }
         let block = Block {
             holder: t,
-            start: Start::At(range.low.copied(alloc)?),
-            high: range.high.copied(alloc)?,
+            start: Start::At(range.low.clone()?),
+            high: range.high.clone()?,
             access,
             work: SetWork {
                 filter: None,
-                doing: Doing::Read(columns.copied(alloc)?),
+                doing: Doing::Read(copy_of(columns)?),
             },
         };
         self.first_quantum(alloc, block, granule)
@@ -67,7 +67,7 @@ impl Contents {
         ensures fits { IfOk result (λ j. IsFitting (parts_of self.now) j.change) }
     {
         if let Some(lock) = self.against_granule(&block, granule) {
-            return Ok(begun(Reply::Locked(lock.copied(alloc)?)));
+            return Ok(begun(Reply::Locked(lock.clone()?)));
         }
         let reply = read_quantum(
             alloc,
@@ -168,7 +168,7 @@ fn opening(
         ≡ Change.Begins (granule_wanted block granule.now block.access) (Some (record { number = subset; block = record block { start = After last.now } }))) }
 {
     let locked = granule_lock(alloc, &block, granule)?;
-    let start = Start::After(last.copied(alloc)?);
+    let start = Start::After(last.clone()?);
     Ok(Change::Begins {
         granule: locked,
         opened: Some(numbered(subset, starting(block, start))),
@@ -213,7 +213,7 @@ fn granule_lock(
         Access::Stable => Ok(None),
         Access::Repeatable => Ok(Some(Lock {
             holder: block.holder,
-            prefix: granule.copied(alloc)?,
+            prefix: granule.clone()?,
             mode: mode_of(&block.work.doing),
         })),
     }
@@ -227,4 +227,10 @@ fn mode_of(doing: &Doing) -> Mode
         Doing::Update(_) => Mode::X,
         Doing::Delete => Mode::X,
     }
+}
+
+fn copy_of(columns: &List<u8>) -> Result<List<u8>, NoMemory>
+    ensures { IfOk result (λ copy. copy ≡ columns.now) }
+{
+    Ok(columns.clone()?)
 }

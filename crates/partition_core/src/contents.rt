@@ -1,7 +1,6 @@
 //! What a partition keeps.
-use crate::entries::Entry;
-use crate::lives::Live;
 use key_sequenced::Cell;
+use partition_state::{Entry, Live};
 use quantum_core::SetWork;
 use sql_base::{Limits, Lock, TableDef};
 use subset_blocks::Numbered;

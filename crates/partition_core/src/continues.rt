@@ -5,8 +5,8 @@ ghost use Rattle.subset_blocks.specs.Blocks.{find_block};
 ghost use Rattle.sql_base.specs.declared.lock_names.TxnName.{TxnName};
 ghost use Rattle.partition_core.specs.Contents.{Parts, state_of, parts_of, AreStill, AreReads};
 ghost use Rattle.partition_core.specs.Changes.{tells, still_handled, IsFitting};
-ghost use Rattle.partition_core.specs.State.{State};
-ghost use Rattle.partition_core.specs.Step.{after_next, goes_on, kept_key};
+ghost use Rattle.partition_state.specs.State.{State};
+ghost use Rattle.partition_state.specs.Step.{after_next, goes_on, kept_key};
 
 use crate::changes::{Change, Judgement, refusal};
 use crate::contents::Contents;
@@ -73,7 +73,7 @@ fn after_next(
         } => {
             let change = Change::Advances {
                 subset,
-                last: last.copied(alloc)?,
+                last: last.clone()?,
             };
             let reply = Reply::Redrive {
                 subset,
@@ -103,7 +103,7 @@ fn wrong_key(alloc: Global, kept: &Key) -> Result<Reply, NoMemory>
     ensures { IfOk result (λ reply. reply ≡ Reply.WrongKey kept.now) }
 {
     Ok(Reply::WrongKey {
-        kept: kept.copied(alloc)?,
+        kept: kept.clone()?,
     })
 }
 

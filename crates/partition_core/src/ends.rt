@@ -2,7 +2,7 @@
 ghost use Rattle.std.specs.Prelude.{◌≡◌};
 ghost use Rattle.partition_core.specs.Contents.{state_of, parts_of};
 ghost use Rattle.partition_core.specs.Changes.{tells, IsFitting};
-ghost use Rattle.partition_core.specs.Step.{prepare, end_commit};
+ghost use Rattle.partition_state.specs.Step.{prepare, end_commit};
 
 use crate::changes::{Change, Judgement, refusal};
 use crate::contents::Contents;

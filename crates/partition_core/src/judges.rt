@@ -4,7 +4,7 @@ ghost use Rattle.sql_base.specs.Scripts.{Lies};
 ghost use Rattle.partition_core.specs.Contents.{state_of, parts_of, AreStill, AreReads};
 ghost use Rattle.partition_core.specs.Changes.{tells, IsFitting};
 ghost use Rattle.partition_core.specs.Kept.{IsServed};
-ghost use Rattle.partition_core.specs.Step.{answered, by_kind, is_closing, unless_prepared};
+ghost use Rattle.partition_state.specs.Step.{answered, by_kind, is_closing, unless_prepared};
 
 use crate::changes::{Judgement, refusal};
 use crate::contents::Contents;

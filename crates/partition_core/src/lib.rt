@@ -6,7 +6,6 @@ mod changes;
 mod contents;
 mod continues;
 mod ends;
-mod entries;
 mod judges;
 mod lives;
 mod locks;
@@ -15,8 +14,4 @@ mod openings;
 mod partitions;
 mod shapes;
 
-pub use entries::Entry;
 pub use partitions::{Partition, Pick, Served};
-
-#[cfg(test)]
-mod tests;

@@ -2,17 +2,11 @@
 ghost use Rattle.std.specs.Prelude.{◌≡◌, ◌<◌, ◌&&◌, ◌==◌, not, find, filter, map, option_and_then, vec_len, vec_capacity};
 ghost use Rattle.std.specs.List.{list_any};
 ghost use Rattle.sql_base.specs.Locks.{same_txn};
-ghost use Rattle.partition_core.specs.State.{enlisted};
-ghost use Rattle.partition_core.specs.Step.{prepared};
+ghost use Rattle.partition_state.specs.State.{enlisted};
+ghost use Rattle.partition_state.specs.Step.{prepared};
 
+use partition_state::Live;
 use sql_base::TxnName;
-
-/// A live transaction, with its floor once it has prepared.
-#[derive(Clone, Copy, Debug)]
-pub struct Live {
-    pub name: TxnName,
-    pub floor: Option<u64>,
-}
 
 pub fn is_live(lives: &[Live], t: TxnName) -> bool
     ensures { result ≡ list_any (λ l. same_txn l.name t) lives.now }

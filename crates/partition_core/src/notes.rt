@@ -1,15 +1,15 @@
 //! One new request: judged, with all memory taken, before the first change.
-ghost use Rattle.std.specs.Prelude.{◌≡◌, ◌<◌, ◌++◌, ◌∷◌, [], OnOk, OnErr, vec_len, vec_capacity};
+ghost use Rattle.std.specs.Prelude.{◌≡◌, ◌<◌, ◌++◌, ◌∷◌, [], IfOk, OnOk, OnErr, vec_len, vec_capacity};
 ghost use Rattle.sql_base.specs.Scripts.{Lies};
 ghost use Rattle.partition_core.specs.Contents.{parts_of, state_of, kept_of, IsServing, HasRoom};
 ghost use Rattle.partition_core.specs.Changes.{noted_parts};
 ghost use Rattle.partition_core.specs.Kept.{IsServed, served};
-ghost use Rattle.partition_core.specs.State.{opener_of};
+ghost use Rattle.partition_state.specs.State.{opener_of};
 
 use crate::changes::Judgement;
 use crate::contents::Contents;
-use crate::entries::Entry;
 use dp_messages::Request;
+use partition_state::Entry;
 use sql_base::{NoMemory, TxnName};
 use std::alloc::Global;
 
@@ -35,7 +35,7 @@ impl Contents {
             ordinal: request.ordinal,
         };
         let judged = self.judge(alloc, t, &request.ask)?;
-        let kept = request.copied(alloc)?;
+        let kept = copy_of(request)?;
         self.reserve()?;
         let Judgement { reply, change } = judged;
         self.apply(t, change);
@@ -72,6 +72,12 @@ impl Contents {
         seat.entry = Some(place);
         append(&mut self.history, entry);
     }
+}
+
+fn copy_of(request: &Request) -> Result<Request, NoMemory>
+    ensures { IfOk result (λ copy. copy ≡ request.now) }
+{
+    Ok(request.clone()?)
 }
 
 fn append(history: &mut Vec<Entry>, entry: Entry)

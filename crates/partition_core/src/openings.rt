@@ -2,13 +2,13 @@
 ghost use Rattle.std.specs.Prelude.{◌≡◌, ◌<◌, ◌≤◌, ◌++◌, ◌∷◌, [], All, length, map, IfOk, OnOk};
 ghost use Rattle.std.specs.List.{AllByRecursion};
 ghost use Rattle.sql_base.specs.Rows.{IsRow, key_width, width};
-ghost use Rattle.partition_core.specs.State.{new_cell, opening};
+ghost use Rattle.partition_state.specs.State.{new_cell, opening};
 ghost use Rattle.partition_core.specs.Contents.{kept_of, parts_of, IsServing};
 ghost use Rattle.partition_core.specs.Kept.{opened_with};
 
 use crate::contents::{Contents, Seat};
 use key_sequenced::Cell;
-use sql_base::{ColumnKind, Limits, NoMemory, Row, TableDef, encode_key};
+use sql_base::{ColumnKind, Limits, NoMemory, Row, TableDef, row_key};
 use std::alloc::Global;
 
 const NEW_SEAT: Seat = Seat {
@@ -75,8 +75,8 @@ fn append_cell(
     ensures { OnOk result (cells.new.items ≡ cells.old.items ++ new_cell table.now row.now ∷ []) }
 {
     let cell = Cell {
-        key: encode_key(alloc, row, table)?,
-        now: Some(row.copied(alloc)?),
+        key: row_key(alloc, row, table)?,
+        now: Some(row.clone()?),
         was: None,
         writer: None,
     };

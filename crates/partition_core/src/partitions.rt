@@ -3,12 +3,12 @@ ghost use Rattle.std.specs.Prelude.{◌≡◌, ◌<◌, ◌++◌, [], IfOk, OnOk
 ghost use Rattle.sql_base.specs.Scripts.{Lies, AreLimits};
 ghost use Rattle.sql_base.specs.Tables.{IsTable};
 ghost use Rattle.sql_base.specs.Rows.{AreRecords};
-ghost use Rattle.partition_core.specs.State.{opening};
+ghost use Rattle.partition_state.specs.State.{opening};
 ghost use Rattle.partition_core.specs.Kept.{IsReplayed, IsServed, Serves, Picks, opened_with, opener_in, rows_in};
 
 use crate::contents::Contents;
-use crate::entries::Entry;
 use dp_messages::{Reply, Request};
+use partition_state::Entry;
 use sql_base::{Limits, List, NoMemory, Row, TableDef};
 use std::alloc::Global;
 use std::marker::Model;
@@ -161,7 +161,7 @@ fn append_row(rows: &mut Vec<Row>, alloc: Global, row: &Option<Row>) -> Result<(
 {
     match row {
         Some(row) => {
-            rows.push(row.copied(alloc)?)?;
+            rows.push(row.clone()?)?;
             Ok(())
         }
         None => Ok(()),

@@ -2,9 +2,10 @@
 ghost use Rattle.std.specs.Prelude.{◌≡◌, nat_lt};
 ghost use Rattle.std.specs.List.{list_all};
 ghost use Rattle.partition_core.specs.Contents.{state_of, parts_of, AreStill};
-ghost use Rattle.partition_core.specs.Step.{is_key_here, is_shaped, are_columns_here};
+ghost use Rattle.partition_state.specs.Step.{is_key_here, is_shaped, are_columns_here};
 
 use crate::contents::Contents;
+use dp_messages::all_differ;
 use sql_base::{KeyRange, Prefix};
 
 impl Contents {
@@ -32,7 +33,7 @@ impl Contents {
         ensures { result ≡ are_columns_here (state_of (parts_of self.now)) columns.now }
     {
         let count = self.table.columns.items().len();
-        !columns.is_empty() && are_below(columns, count)
+        !columns.is_empty() && (are_below(columns, count) && all_differ(columns))
     }
 }
 

@@ -1,5 +1,4 @@
 pub mod Greatest
-pub mod KeyOrders
 pub mod OpenReads
 pub mod ReadOnly
 pub mod Walking

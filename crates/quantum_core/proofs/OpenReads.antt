@@ -16,7 +16,8 @@ use Rattle.key_sequenced.specs.Cells.{AreCells}
 use Rattle.key_sequenced.specs.declared.Cell.{Cell}
 use Rattle.subset_blocks.specs.declared.Block.{Block}
 use Rattle.quantum_core.specs.Quantum.{greatest, may_handle, visits, rows_of, row_of, last_key, stopped, answer, reply_to, quantum}
-use Rattle.quantum_core.specs.Verdicts.{Judged, is_from, is_candidate, is_hidden, judged, verdict, barrier, on_row, unless_blocked}
+use Rattle.quantum_core.specs.Verdicts.{Judged, is_candidate, is_hidden, judged, verdict, barrier, on_row, unless_blocked}
+use Rattle.sql_base.specs.Keys.{is_from}
 use Rattle.quantum_core.specs.declared.replies.QuantumReply.{QuantumReply}
 use Rattle.quantum_core.specs.declared.replies.QuantumReply.TheVariants.{Ended, Redrive, Locked, Failed}
 use Rattle.quantum_core.specs.declared.verdicts.Effect.TheVariants.{Gives}

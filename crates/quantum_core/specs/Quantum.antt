@@ -5,6 +5,7 @@ use Rattle.sql_base.specs.Keys.{key_eq}
 use Rattle.sql_base.specs.Locks.{granted}
 use Rattle.sql_base.specs.declared.faults.Cause.{Cause}
 use Rattle.sql_base.specs.declared.faults.Cause.TheVariants as cause
+use Rattle.sql_base.specs.declared.faults.Fault.TheVariants as fault
 use Rattle.sql_base.specs.declared.lock_names.Lock.{Lock}
 use Rattle.sql_base.specs.declared.lock_names.Mode.TheVariants.{X}
 use Rattle.sql_base.specs.declared.lock_names.TxnName.{TxnName}
@@ -75,8 +76,8 @@ cause_of limits handled next = if length handled == limits.quantum then cause.Vi
 abbrev pub refusal : List ℕ → Verdict → QuantumReply
 refusal key (Blocked lock) = Locked lock
 refusal key (Faulty fault) = Failed key fault
--- never: a first row fits the buffer
-refusal key verdict = Ended [] 0
+-- never, since a first row fits the buffer; if it came, it would not pass for an end
+refusal key verdict = Failed key fault.Overflow
 
 abbrev pub last_key : List Judged → Option (List ℕ)
 last_key [] = None

@@ -1,14 +1,12 @@
 -- The candidates of a quantum, and the verdict on each.
 use Rattle.std.specs.Prelude.{ℕ, List, filter, map, Option, Some, None, Bool, true, false, not, ◌&&◌, Result, Ok, Err}
-use Rattle.sql_base.specs.Keys.{key_lt, key_le}
+use Rattle.sql_base.specs.Keys.{is_from, key_le}
 use Rattle.sql_base.specs.Rows.{packed}
 use Rattle.sql_base.specs.Val.{Outcome, filter_val, IsTruth}
 use Rattle.sql_base.specs.OnRows.{fault_of, updated, first_failing}
 use Rattle.sql_base.specs.Locks.{first_conflict, same_txn}
 use Rattle.sql_base.specs.declared.faults.EvalFault.{EvalFault}
 use Rattle.sql_base.specs.declared.faults.Fault.{Fault}
-use Rattle.sql_base.specs.declared.key_ranges.Start.{Start}
-use Rattle.sql_base.specs.declared.key_ranges.Start.TheVariants.{At, After}
 use Rattle.sql_base.specs.declared.lock_names.Access.{Access}
 use Rattle.sql_base.specs.declared.lock_names.Access.TheVariants.{Browse}
 use Rattle.sql_base.specs.declared.lock_names.Lock.{Lock}
@@ -24,11 +22,6 @@ use Rattle.quantum_core.specs.declared.works.Doing.TheVariants.{Read, Update, De
 use Rattle.quantum_core.specs.declared.verdicts.Effect.TheVariants.{Gives, Becomes, Goes}
 use Rattle.quantum_core.specs.declared.verdicts.Verdict.{Verdict}
 use Rattle.quantum_core.specs.declared.verdicts.Verdict.TheVariants.{Blocked, Faulty, PassedOver, Selected}
-
--- the key isn't before the start
-abbrev pub is_from : Start → List ℕ → Bool
-is_from (At start) key = key_le start key
-is_from (After last) key = key_lt last key
 
 -- whether the transaction doesn't see a deleted cell: its own one, and under BROWSE any
 abbrev pub hides : Access → TxnName → Option TxnName → Bool

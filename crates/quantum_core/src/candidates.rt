@@ -1,5 +1,6 @@
 ghost use Rattle.std.specs.Prelude.{◌≡◌};
-ghost use Rattle.quantum_core.specs.Verdicts.{is_from, hides, is_hidden, is_candidate};
+ghost use Rattle.sql_base.specs.Keys.{is_from};
+ghost use Rattle.quantum_core.specs.Verdicts.{hides, is_hidden, is_candidate};
 
 use crate::works::SetWork;
 use key_sequenced::Cell;

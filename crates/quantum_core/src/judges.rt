@@ -24,7 +24,7 @@ pub fn judge(
     ensures { IfOk result (λ found. found ≡ verdict table.now locks.now block.now cell.entry.now) }
 {
     if let Some(lock) = barrier_to(block.access, locks, block.holder, cell.key.bytes()) {
-        return Ok(Verdict::Blocked(lock.copied(alloc)?));
+        return Ok(Verdict::Blocked(lock.clone()?));
     }
     match (&cell.now, &block.work.doing) {
         (Some(row), Doing::Read(columns)) => give(alloc, row, columns.items()),

@@ -14,6 +14,3 @@ pub use replies::QuantumReply;
 pub use verdicts::{Effect, Verdict};
 pub use walks::read_quantum;
 pub use works::{Doing, SetWork};
-
-#[cfg(test)]
-mod tests;

@@ -9,7 +9,7 @@ use crate::replies::QuantumReply;
 use crate::verdicts::{Effect, Verdict};
 use crate::works::SetWork;
 use key_sequenced::Cell;
-use sql_base::{Cause, Key, Limits, List, Lock, NoMemory, Packed, TableDef};
+use sql_base::{Cause, Fault, Key, Limits, List, Lock, NoMemory, Packed, TableDef};
 use std::alloc::Global;
 use subset_blocks::Block;
 
@@ -36,18 +36,11 @@ pub fn read_quantum(
             continue;
         }
         if visits == limits.quantum {
-            return stop(
-                alloc,
-                last,
-                Cause::Visits,
-                &cell.key,
-                Verdict::PassedOver,
-                rows,
-            );
+            return stop(last, Cause::Visits, &cell.key, Verdict::PassedOver, rows);
         }
         let found = judge(alloc, table, locks, block, cell)?;
         if let Some(cause) = cause_to_stop(&found, room) {
-            return stop(alloc, last, cause, &cell.key, found, rows);
+            return stop(last, cause, &cell.key, found, rows);
         }
         room -= room_of(&found);
         append_row(&mut rows, found)?;
@@ -117,7 +110,6 @@ fn append_effect(rows: &mut Vec<Packed>, effect: Effect) -> Result<(), NoMemory>
 
 /// The reply where a candidate is left: a redrive from the last one handled, or else the refusal of this one.
 fn stop(
-    alloc: Global,
     last: Option<&Key>,
     cause: Cause,
     key: &Key,
@@ -128,35 +120,26 @@ fn stop(
 {
     match last {
         Some(handled) => Ok(QuantumReply::Redrive {
-            last: handled.copied(alloc)?,
+            last: handled.clone()?,
             cause,
             rows: List::from_vec(rows),
             changed: 0,
         }),
-        None => refuse(alloc, key, verdict),
+        None => refuse(key, verdict),
     }
 }
 
-fn refuse(alloc: Global, key: &Key, verdict: Verdict) -> Result<QuantumReply, NoMemory>
+fn refuse(key: &Key, verdict: Verdict) -> Result<QuantumReply, NoMemory>
     ensures { IfOk result (λ reply. reply ≡ refusal key.now verdict) }
 {
-    match verdict {
-        Verdict::Blocked(lock) => Ok(QuantumReply::Locked(lock)),
-        Verdict::Faulty(fault) => Ok(QuantumReply::Failed {
-            key: key.copied(alloc)?,
-            fault,
-        }),
-        Verdict::PassedOver => Ok(nothing(alloc)),
-        Verdict::Selected(_effect) => Ok(nothing(alloc)),
-    }
-}
-
-/// No rows, which is never the reply: a first row fits the buffer.
-fn nothing(alloc: Global) -> QuantumReply
-    ensures { result ≡ QuantumReply.Ended [] 0 }
-{
-    QuantumReply::Ended {
-        rows: List::new(alloc),
-        changed: 0,
-    }
+    let fault = match verdict {
+        Verdict::Blocked(lock) => return Ok(QuantumReply::Locked(lock)),
+        Verdict::Faulty(fault) => fault,
+        Verdict::PassedOver => Fault::Overflow,
+        Verdict::Selected(_effect) => Fault::Overflow,
+    };
+    Ok(QuantumReply::Failed {
+        key: key.clone()?,
+        fault,
+    })
 }

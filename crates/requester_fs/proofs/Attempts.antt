@@ -11,16 +11,16 @@ use Rattle.dp_messages.specs.declared.replies.Reply.TheVariants as reply
 use Rattle.dp_messages.specs.declared.requests.Ask.{Ask}
 use Rattle.dp_messages.specs.declared.requests.Ask.TheVariants.{Prepare, EndCommit, EndUndo}
 use Rattle.dp_messages.specs.declared.requests.Request.{Request}
-use Rattle.requester_fs.specs.declared.logs.Answer.{Answer}
-use Rattle.requester_fs.specs.declared.logs.Answer.TheVariants.{Reply, PathFailed, Stamp}
-use Rattle.requester_fs.specs.declared.logs.LogEntry.{LogEntry}
-use Rattle.requester_fs.specs.declared.logs.LogEntry.TheVariants.{Asked, Drew}
-use Rattle.requester_fs.specs.Follows.{Attempt, AreRows, AreEnds, ArePrepares, IsEnding, IsAttempt, IsInLine, InLineBy, IsList, OneAfterOther, joined, touched, greatest_of}
+use Rattle.session_grammar.specs.declared.logs.Answer.{Answer}
+use Rattle.session_grammar.specs.declared.logs.Answer.TheVariants.{Reply, PathFailed, Stamp}
+use Rattle.session_grammar.specs.declared.logs.LogEntry.{LogEntry}
+use Rattle.session_grammar.specs.declared.logs.LogEntry.TheVariants.{Asked, Drew}
+use Rattle.session_grammar.specs.Follows.{Attempt, AreRows, AreEnds, ArePrepares, IsEnding, IsAttempt, IsInLine, InLineBy, IsList, OneAfterOther, joined, touched, greatest_of}
 use Rattle.requester_fs.specs.Places.{begin}
-use Rattle.requester_fs.specs.Plans.{Requester, Subsets, plan_of}
-use Rattle.requester_fs.specs.Rows.{IsAsked, IsRow, is_for}
+use Rattle.session_grammar.specs.Plans.{Requester, Subsets, plan_of}
+use Rattle.session_grammar.specs.Rows.{IsAsked, IsRow, is_for}
 use Rattle.requester_fs.specs.Thin.{scan}
-use Rattle.requester_fs.proofs.Lists.{one_of, one_to, joined-one}
+use Rattle.session_grammar.proofs.LogLists.{one_of, one_to, joined-one}
 use Rattle.requester_fs.proofs.ThinPlans.{select, first_sent}
 
 abbrev pub asking : ℕ → Ask → Request

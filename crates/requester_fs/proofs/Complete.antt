@@ -11,22 +11,23 @@ use Rattle.dp_messages.specs.declared.replies.Reply.TheVariants as reply
 use Rattle.dp_messages.specs.declared.requests.Ask.{Ask}
 use Rattle.dp_messages.specs.declared.requests.Ask.TheVariants.{Continue, Prepare, EndCommit, EndUndo}
 use Rattle.dp_messages.specs.declared.requests.Request.{Request}
-use Rattle.requester_fs.specs.declared.logs.Answer.{Answer}
-use Rattle.requester_fs.specs.declared.logs.Answer.TheVariants.{Reply, PathFailed, Stamp}
-use Rattle.requester_fs.specs.declared.logs.LogEntry.{LogEntry}
-use Rattle.requester_fs.specs.declared.logs.LogEntry.TheVariants.{Asked, Drew}
+use Rattle.session_grammar.specs.declared.logs.Answer.{Answer}
+use Rattle.session_grammar.specs.declared.logs.Answer.TheVariants.{Reply, PathFailed, Stamp}
+use Rattle.session_grammar.specs.declared.logs.LogEntry.{LogEntry}
+use Rattle.session_grammar.specs.declared.logs.LogEntry.TheVariants.{Asked, Drew}
 use Rattle.requester_fs.specs.declared.places.Place.{Place}
 use Rattle.requester_fs.specs.declared.places.Stage.{Stage}
 use Rattle.requester_fs.specs.declared.places.Stage.TheVariants.{Beginning, Continuing, Preparing, Drawing, Committing, Undoing, Finished}
 use Rattle.requester_fs.specs.declared.places.Task.TheVariants.{Send}
-use Rattle.requester_fs.specs.Follows.{Attempt, AfterRow, AreRows, AreTries, IsInLine, joined, entries_of}
+use Rattle.session_grammar.specs.Follows.{Attempt, AfterRow, AreRows, AreTries, IsInLine, joined, entries_of}
 use Rattle.requester_fs.specs.Leading.{Leads, Does, place_behind}
 use Rattle.requester_fs.specs.Places.{begin, task_in, after, after_row, after_undo, restarted}
-use Rattle.requester_fs.specs.Plans.{Requester, Subsets, plan_of}
-use Rattle.requester_fs.specs.Rows.{IsAsked, IsRow, IsSent, is_locked}
+use Rattle.session_grammar.specs.Plans.{Requester, Subsets, plan_of}
+use Rattle.session_grammar.specs.Rows.{IsAsked, IsRow, IsSent, is_locked}
 use Rattle.requester_fs.specs.Thin.{scan}
 use Rattle.requester_fs.proofs.Attempts.{asking, Scans, EndsOne, scans_of}
-use Rattle.requester_fs.proofs.Lists.{Leads-append, joined-one}
+use Rattle.requester_fs.proofs.Lists.{Leads-append}
+use Rattle.session_grammar.proofs.LogLists.{joined-one}
 use Rattle.requester_fs.proofs.ThinPlans.{select, first_sent}
 
 abbrev pub place : ℕ → ℕ → ℕ → Stage → Place

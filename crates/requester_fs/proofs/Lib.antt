@@ -5,5 +5,3 @@ pub mod Complete
 pub mod Sound
 pub mod Standing
 pub mod Nexts
-pub mod Readings
-mod WorkedRows

@@ -7,19 +7,20 @@ use Rattle.dp_messages.specs.declared.replies.Reply.TheVariants as reply
 use Rattle.dp_messages.specs.declared.requests.Ask.{Ask}
 use Rattle.dp_messages.specs.declared.requests.Ask.TheVariants.{EndCommit, EndUndo}
 use Rattle.dp_messages.specs.declared.requests.Request.{Request}
-use Rattle.requester_fs.specs.declared.logs.Answer.{Answer}
-use Rattle.requester_fs.specs.declared.logs.Answer.TheVariants.{Reply, PathFailed, Stamp}
-use Rattle.requester_fs.specs.declared.logs.LogEntry.{LogEntry}
-use Rattle.requester_fs.specs.declared.logs.LogEntry.TheVariants.{Asked, Drew}
+use Rattle.session_grammar.specs.declared.logs.Answer.{Answer}
+use Rattle.session_grammar.specs.declared.logs.Answer.TheVariants.{Reply, PathFailed, Stamp}
+use Rattle.session_grammar.specs.declared.logs.LogEntry.{LogEntry}
+use Rattle.session_grammar.specs.declared.logs.LogEntry.TheVariants.{Asked, Drew}
 use Rattle.requester_fs.specs.declared.places.Place.{Place}
 use Rattle.requester_fs.specs.declared.places.Stage.TheVariants.{Finished}
 use Rattle.requester_fs.specs.declared.places.Task.{Task}
 use Rattle.requester_fs.specs.declared.places.Task.TheVariants.{Send, Commit}
-use Rattle.requester_fs.specs.Follows.{CountSyncs, in_line}
-use Rattle.requester_fs.specs.Leading.{Leads, Does, next_of, sync_behind}
+use Rattle.session_grammar.specs.Follows.{CountSyncs, in_line}
+use Rattle.requester_fs.specs.Leading.{Leads, Does, next_of}
+use Rattle.session_grammar.specs.Sessions.{sync_behind}
 use Rattle.requester_fs.specs.Places.{task_in, task_at, first_place}
-use Rattle.requester_fs.specs.Rows.{IsSent}
-use Rattle.requester_fs.specs.Sessions.{Next, Sends, Draws, Ends, MayCome, entries_kept, Working, Begins, IsSessionOf}
+use Rattle.session_grammar.specs.Rows.{IsSent}
+use Rattle.session_grammar.specs.Sessions.{Next, Sends, Draws, Ends, MayCome, entries_kept, Working, Begins, IsSessionOf}
 use Rattle.requester_fs.specs.Thin.{IsThin}
 use Rattle.requester_fs.proofs.Lists.{Leads-rest}
 use Rattle.requester_fs.proofs.Standing.{in_line_leads}

@@ -10,25 +10,27 @@ use Rattle.dp_messages.specs.declared.replies.Reply.{Reply as PartitionReply}
 use Rattle.dp_messages.specs.declared.replies.Reply.TheVariants as reply
 use Rattle.dp_messages.specs.declared.requests.Ask.{Ask}
 use Rattle.dp_messages.specs.declared.requests.Ask.TheVariants.{Continue, Prepare, EndCommit, EndUndo}
-use Rattle.requester_fs.specs.declared.logs.Answer.{Answer}
-use Rattle.requester_fs.specs.declared.logs.Answer.TheVariants.{Reply, Stamp}
-use Rattle.requester_fs.specs.declared.logs.LogEntry.{LogEntry}
-use Rattle.requester_fs.specs.declared.logs.LogEntry.TheVariants.{Asked, Drew}
+use Rattle.session_grammar.specs.declared.logs.Answer.{Answer}
+use Rattle.session_grammar.specs.declared.logs.Answer.TheVariants.{Reply, Stamp}
+use Rattle.session_grammar.specs.declared.logs.LogEntry.{LogEntry}
+use Rattle.session_grammar.specs.declared.logs.LogEntry.TheVariants.{Asked, Drew}
 use Rattle.requester_fs.specs.declared.places.Place.{Place}
 use Rattle.requester_fs.specs.declared.places.Stage.{Stage}
 use Rattle.requester_fs.specs.declared.places.Stage.TheVariants.{Beginning, Continuing, Preparing, Drawing, Committing, Undoing, Finished}
 use Rattle.requester_fs.specs.declared.places.Task.{Task}
 use Rattle.requester_fs.specs.declared.places.Task.TheVariants.{Send, Commit, Nothing}
-use Rattle.requester_fs.specs.Follows.{CountSyncs, FollowsInLine, IsInLine, Reads, entries_of, in_line, requester, works_of}
-use Rattle.requester_fs.specs.Leading.{Leads, Does, StandsAt, next_of, place_behind, sync_after, sync_behind}
+use Rattle.session_grammar.specs.Follows.{CountSyncs, FollowsInLine, IsInLine, Reads, entries_of, in_line, requester, works_of}
+use Rattle.requester_fs.specs.Leading.{Leads, Does, StandsAt, next_of, place_behind, sync_after}
+use Rattle.session_grammar.specs.Sessions.{sync_behind}
 use Rattle.requester_fs.specs.Places.{begin, task_in, task_at, first_place, after, after_in, after_row, after_reply, after_prepare, after_draw, after_undo, repeated, restarted}
-use Rattle.requester_fs.specs.Plans.{Requester, Subsets, plan_of}
-use Rattle.requester_fs.specs.Rows.{IsSent}
-use Rattle.requester_fs.specs.Sessions.{Ends, MayCome, entries_kept, Begins, IsWithin, IsSessionOf}
+use Rattle.session_grammar.specs.Plans.{Requester, Subsets, plan_of}
+use Rattle.session_grammar.specs.Rows.{IsSent}
+use Rattle.session_grammar.specs.Sessions.{Ends, MayCome, entries_kept, Begins, IsWithin, IsSessionOf}
 use Rattle.requester_fs.specs.Thin.{IsThin, scan}
 use Rattle.requester_fs.proofs.Attempts.{asking}
 use Rattle.requester_fs.proofs.Complete.{place, tries_lead}
-use Rattle.requester_fs.proofs.Lists.{Leads-append, Leads-rest, CountSyncs-append, sync_behind-append}
+use Rattle.requester_fs.proofs.Lists.{Leads-append, Leads-rest}
+use Rattle.session_grammar.proofs.LogLists.{CountSyncs-append, sync_behind-append}
 use Rattle.requester_fs.proofs.Sound.{sound, tries_of}
 use Rattle.requester_fs.proofs.ThinPlans.{select, first_sent, thin-plan, thin-parts}
 

@@ -6,7 +6,7 @@ use Rattle.sql_base.specs.declared.statements.Statement.{Statement}
 use Rattle.sql_base.specs.declared.statements.Statement.TheVariants.{Select}
 use Rattle.sql_base.specs.declared.tables.TableDef.{TableDef}
 use Rattle.requester_fs.specs.Places.{begin}
-use Rattle.requester_fs.specs.Plans.{Requester, Sent, Subsets, plan_of}
+use Rattle.session_grammar.specs.Plans.{Requester, Sent, Subsets, plan_of}
 use Rattle.requester_fs.specs.Thin.{IsThinTable}
 
 abbrev pub select : Statement

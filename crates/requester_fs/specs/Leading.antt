@@ -3,17 +3,17 @@ use Rattle.std.specs.Prelude.{◌≡◌, ◌≤◌, ℕ, ◌+◌, List, [], ◌�
 use Rattle.sql_base.specs.Scripts.{AreLimits}
 use Rattle.sql_base.specs.declared.lock_names.TxnName.{TxnName}
 use Rattle.sql_base.specs.declared.scripts.Limits.{Limits}
-use Rattle.requester_fs.specs.declared.logs.Answer.{Answer}
-use Rattle.requester_fs.specs.declared.logs.Answer.TheVariants.{Stamp}
-use Rattle.requester_fs.specs.declared.logs.LogEntry.{LogEntry}
-use Rattle.requester_fs.specs.declared.logs.LogEntry.TheVariants.{Asked, Drew}
+use Rattle.session_grammar.specs.declared.logs.Answer.{Answer}
+use Rattle.session_grammar.specs.declared.logs.Answer.TheVariants.{Stamp}
+use Rattle.session_grammar.specs.declared.logs.LogEntry.{LogEntry}
+use Rattle.session_grammar.specs.declared.logs.LogEntry.TheVariants.{Asked, Drew}
 use Rattle.requester_fs.specs.declared.places.Place.{Place}
 use Rattle.requester_fs.specs.declared.places.Task.{Task}
 use Rattle.requester_fs.specs.declared.places.Task.TheVariants.{Send, Commit, Nothing}
-use Rattle.requester_fs.specs.Follows.{CountSyncs}
+use Rattle.session_grammar.specs.Follows.{CountSyncs}
 use Rattle.requester_fs.specs.Places.{task_at, first_place, after}
-use Rattle.requester_fs.specs.Rows.{IsSent}
-use Rattle.requester_fs.specs.Sessions.{Next, Sends, Draws, Ends}
+use Rattle.session_grammar.specs.Rows.{IsSent}
+use Rattle.session_grammar.specs.Sessions.{Next, Sends, Draws, Ends, sync_behind}
 
 -- what contracts see of a task
 abbrev pub next_of : ℕ → ℕ → ℕ → Task → Next
@@ -21,16 +21,11 @@ next_of number sync ordinal (Send request) = Sends 0 sync request
 next_of number sync ordinal (Commit floor) = Draws (record { session = number; ordinal = ordinal }) floor
 next_of number sync ordinal Nothing = Ends
 
--- the sync of the request that comes after a task, or after a log
+-- the sync of the request that comes after a task
 abbrev pub sync_after : ℕ → Task → ℕ
 sync_after sync (Send request) = sync + 1
 sync_after sync (Commit floor) = sync
 sync_after sync Nothing = sync
-
-abbrev pub sync_behind : ℕ → List LogEntry → ℕ
-sync_behind next [] = next
-sync_behind next (Asked part sync request losses answer ∷ log) = sync_behind (next + 1) log
-sync_behind next (Drew name floor answer ∷ log) = sync_behind next log
 
 abbrev pub IsStamp : Answer → Type 0
 IsStamp (Stamp stamp) = Unit {0}

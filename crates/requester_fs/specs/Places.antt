@@ -6,8 +6,8 @@ use Rattle.dp_messages.specs.declared.replies.Reply.{Reply as PartitionReply}
 use Rattle.dp_messages.specs.declared.replies.Reply.TheVariants as reply
 use Rattle.dp_messages.specs.declared.requests.Ask.{Ask}
 use Rattle.dp_messages.specs.declared.requests.Ask.TheVariants.{BeginRead, Continue, Prepare, EndCommit, EndUndo}
-use Rattle.requester_fs.specs.declared.logs.Answer.{Answer}
-use Rattle.requester_fs.specs.declared.logs.Answer.TheVariants.{Reply, Stamp}
+use Rattle.session_grammar.specs.declared.logs.Answer.{Answer}
+use Rattle.session_grammar.specs.declared.logs.Answer.TheVariants.{Reply, Stamp}
 use Rattle.requester_fs.specs.declared.places.Task.{Task}
 use Rattle.requester_fs.specs.declared.places.Task.TheVariants.{Send, Commit, Nothing}
 use Rattle.requester_fs.specs.declared.places.Place.{Place}

@@ -1,8 +1,8 @@
 ghost use Rattle.std.specs.Prelude.{◌≡◌, ◌+◌, ◌<◌, ◌^◌, IfOk};
 ghost use Rattle.requester_fs.specs.Places.{begin, task_at, first_place, moved, repeated, redriven, after_undo, after_reply, after_row, after_prepare, after_draw, after};
 
-use crate::logs::Answer;
 use dp_messages::{Ask, Reply, Request};
+use session_grammar::Answer;
 use sql_base::{Access, Key, KeyRange, Limits, List, NoMemory, Prefix};
 use std::alloc::Global;
 
@@ -56,7 +56,7 @@ impl Stage {
             Stage::Beginning => Stage::Beginning,
             Stage::Continuing { subset, last } => Stage::Continuing {
                 subset: *subset,
-                last: last.copied(alloc)?,
+                last: last.clone()?,
             },
             Stage::Preparing => Stage::Preparing,
             Stage::Drawing { floor } => Stage::Drawing { floor: *floor },
@@ -90,7 +90,7 @@ impl Place {
             Stage::Beginning => begin_read(alloc)?,
             Stage::Continuing { subset, last } => Ask::Continue {
                 subset: *subset,
-                last: last.copied(alloc)?,
+                last: last.clone()?,
             },
             Stage::Preparing => Ask::Prepare,
             Stage::Drawing { floor } => return Ok(Task::Commit { floor: *floor }),
@@ -157,7 +157,7 @@ impl Place {
     ) -> Result<Place, NoMemory>
         ensures { IfOk result (λ place. place ≡ redriven patience self.now subset last.now) }
     {
-        let last = last.copied(alloc)?;
+        let last = last.clone()?;
         Ok(Place {
             ordinal: self.ordinal,
             restarts: self.restarts,

@@ -1,15 +1,15 @@
 ghost use Rattle.std.specs.Prelude.{◌≡◌, ◌≤◌, ◌<◌, ◌+◌, ◌^◌, ℕ, List, [], ◌∷◌, ◌++◌, length, IsTrue, IfOk, OnOk, OnErr};
 ghost use Rattle.sql_base.specs.Scripts.{Lies};
 ghost use Rattle.sql_base.specs.declared.scripts.Script.{Script as AnyScript};
-ghost use Rattle.requester_fs.specs.Rows.{fits};
-ghost use Rattle.requester_fs.specs.declared.logs.Answer.TheVariants as came;
+ghost use Rattle.session_grammar.specs.Rows.{fits};
+ghost use Rattle.session_grammar.specs.declared.logs.Answer.TheVariants as came;
 ghost use Rattle.requester_fs.specs.Leading.{next_of, sync_after};
-ghost use Rattle.requester_fs.specs.Sessions.{Ends, shown, fits_next, MayCome, entries_kept, IsSessionOf};
+ghost use Rattle.session_grammar.specs.Sessions.{Ends, shown, fits_next, MayCome, entries_kept, IsSessionOf};
 ghost use Rattle.requester_fs.specs.Thin.{IsThin};
 
-use crate::logs::{Action, Answer, LogEntry};
 use crate::places::{Place, Task};
 use dp_messages::{Ask, Reply};
+use session_grammar::{Action, Answer, LogEntry};
 use sql_base::{Limits, List, NoMemory, Script, TxnName};
 use std::alloc::Global;
 use std::marker::Model;
@@ -33,7 +33,7 @@ pub struct Session {
 
 impl Model for Session {
     ghost use Rattle.std.specs.Prelude.{◌≤◌, ◌+◌, vec_len};
-    ghost use Rattle.requester_fs.specs.Sessions.{Working};
+    ghost use Rattle.session_grammar.specs.Sessions.{Working};
     ghost use Rattle.requester_fs.specs.Leading.{next_of, StandsAt};
 
     ghost Value = { Working };

@@ -1,5 +1,5 @@
 -- The record of two sessions is one of a run of its script.
-use Rattle.std.proofs.Common.{◌≡◌, ◌<◌, ◌≤◌, ℕ, zero, suc, List, [], ◌∷◌, Some, None, Bool, true, false, cond, refl, ap, subst, inl, inr, lit≤, arith}
+use Rattle.std.proofs.Common.{◌≡◌, ◌<◌, ◌≤◌, ℕ, zero, suc, List, [], ◌∷◌, Some, None, Bool, true, false, cond, refl, ap, subst, inl, inr, lit≤, arith, sym}
 use Rattle.std.specs.Prelude.{◌⊎◌, ◌==◌, ◌&&◌, Contains, filter, slice_get, unwrap_or}
 use Rattle.std.proofs.lemmas.Bool.{eqb-true, and_parts}
 use Rattle.sql_base.specs.Scripts.{IsScript, Lies}
@@ -13,22 +13,29 @@ use Rattle.dp_messages.specs.declared.replies.Reply.{Reply as PartitionReply}
 use Rattle.dp_messages.specs.declared.replies.Reply.TheVariants as reply
 use Rattle.dp_messages.specs.declared.requests.Ask.{Ask}
 use Rattle.dp_messages.specs.declared.requests.Ask.TheVariants as ask
-use Rattle.requester_fs.specs.Follows.{Attempt, Commits, InTurn, IsAttempt, IsEnding, Reads, IsPart, follows, requester, works_of}
-use Rattle.requester_fs.specs.Rows.{IsAsked, IsSent, is_for}
-use Rattle.requester_fs.specs.declared.logs.Answer.TheVariants.{Reply}
+use Rattle.session_grammar.specs.Follows.{Attempt, Commits, InTurn, IsAttempt, IsEnding, Reads, IsPart, follows, requester, works_of}
+use Rattle.session_grammar.specs.Rows.{IsAsked, IsSent, is_for}
+use Rattle.session_grammar.specs.declared.logs.Answer.TheVariants.{Reply}
 use Rattle.run_record.specs.Legal.{AreServed, AttemptsEnded, EntriesAsked, FloorsCovered, Legal, StampsDrawn, drawn_in}
 use Rattle.run_record.specs.Openings.{history_of, log_of}
 use Rattle.run_record.proofs.TwoReadings.{reader_read, writer_read}
-use Rattle.run_record.proofs.TwoSerial.{in_one}
 use Rattle.run_record.proofs.TwoSessions.{all_four, asked, both, first_draw, inserting, kept, reader, reading, row, scan, script, second_draw, table, writer}
 use Rattle.run_record.proofs.WorkedRows.{history_replays}
+
+-- what is in a list of one is that one
+in_one : {X : Type 0} (x y : X) → Contains (x ∷ []) y → y ≡ x
+in_one x y (zero, lt, is) = sym is
+in_one x y (suc k, lt, is) = absurd (omega (arith, lt))
 
 -- the table may be declared
 is_table : IsTable table
 is_table = record {
-  name = lit≤ tt;
+  name = record { name = record { letter = refl; bytes = refl; free = refl }; short = lit≤ tt };
   columns = lit≤ tt;
-  column_names = (lit≤ tt, (lit≤ tt, tt));
+  column_names = (
+    record { name = record { letter = refl; bytes = refl; free = refl }; short = lit≤ tt },
+    (record { name = record { letter = refl; bytes = refl; free = refl }; short = lit≤ tt }, tt),
+  );
   names_differ = refl;
   widths = (tt, (tt, tt));
   row = lit≤ tt;
@@ -223,7 +230,7 @@ either_committed session attempts a d (inr h) =
 ended : AttemptsEnded script kept
 ended = record {
   ends = ((refl, (refl, (refl, (refl, (refl, (refl, tt)))))), tt);
-  committed = λ session attempts a d reads has drawn. either_committed session attempts a d (found_two ((2 == session) && (1 == a.ordinal)) ((1 == session) && (1 == a.ordinal)) d drawn) reads has;
+  committed = λ session attempts a d lies reads has drawn. either_committed session attempts a d (found_two ((2 == session) && (1 == a.ordinal)) ((1 == session) && (1 == a.ordinal)) d drawn) reads has;
 }
 
 -- all clauses together

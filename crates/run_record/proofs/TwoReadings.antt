@@ -11,15 +11,15 @@ use Rattle.dp_messages.specs.declared.replies.Reply.TheVariants as reply
 use Rattle.dp_messages.specs.declared.requests.Ask.TheVariants.{Prepare, EndCommit, EndUndo}
 use Rattle.dp_messages.specs.declared.requests.Ask.TheVariants as ask
 use Rattle.dp_messages.specs.declared.requests.Request.{Request}
-use Rattle.requester_fs.proofs.Lists.{one_of}
-use Rattle.requester_fs.proofs.Readings.{only_reading}
-use Rattle.requester_fs.specs.Follows.{ArePrepares, AreTries, Attempt, IsAttempt, IsEnding, IsPart, IsSingle, Reads, entries_of, greatest_of, joined, requester, works_of}
-use Rattle.requester_fs.specs.Plans.{Requester}
-use Rattle.requester_fs.specs.Rows.{IsAsked, IsRow}
-use Rattle.requester_fs.specs.declared.logs.Answer.{Answer}
-use Rattle.requester_fs.specs.declared.logs.Answer.TheVariants.{Reply, PathFailed, Stamp}
-use Rattle.requester_fs.specs.declared.logs.LogEntry.{LogEntry}
-use Rattle.requester_fs.specs.declared.logs.LogEntry.TheVariants.{Drew}
+use Rattle.session_grammar.proofs.LogLists.{one_of}
+use Rattle.session_grammar.proofs.ScanReadings.{only_reading}
+use Rattle.session_grammar.specs.Follows.{ArePrepares, AreTries, Attempt, IsAttempt, IsEnding, IsPart, IsSingle, Reads, entries_of, greatest_of, joined, requester, works_of}
+use Rattle.session_grammar.specs.Plans.{Requester}
+use Rattle.session_grammar.specs.Rows.{IsAsked, IsRow}
+use Rattle.session_grammar.specs.declared.logs.Answer.{Answer}
+use Rattle.session_grammar.specs.declared.logs.Answer.TheVariants.{Reply, PathFailed, Stamp}
+use Rattle.session_grammar.specs.declared.logs.LogEntry.{LogEntry}
+use Rattle.session_grammar.specs.declared.logs.LogEntry.TheVariants.{Drew}
 use Rattle.run_record.specs.Openings.{log_of}
 use Rattle.run_record.proofs.TwoSessions.{all_four, asked, both, inserting, kept, name, reader, row, scan, script, writer}
 

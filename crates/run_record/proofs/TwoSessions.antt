@@ -2,7 +2,7 @@
 use Rattle.std.proofs.Common.{ℕ, ◌*◌, pos, List, [], ◌∷◌, None, true}
 use Rattle.std.specs.Prelude.{codes}
 use Rattle.sql_base.specs.Rows.{packed}
-use Rattle.requester_fs.specs.Follows.{Attempt}
+use Rattle.session_grammar.specs.Follows.{Attempt}
 use Rattle.sql_base.specs.declared.lock_names.Access.TheVariants.{Repeatable}
 use Rattle.sql_base.specs.declared.lock_names.TxnName.{TxnName}
 use Rattle.sql_base.specs.declared.outcomes.Outcome.TheVariants.{Committed}
@@ -18,10 +18,10 @@ use Rattle.dp_messages.specs.declared.replies.Reply.{Reply as PartitionReply}
 use Rattle.dp_messages.specs.declared.replies.Reply.TheVariants as reply
 use Rattle.dp_messages.specs.declared.requests.Ask.{Ask}
 use Rattle.dp_messages.specs.declared.requests.Ask.TheVariants as ask
-use Rattle.partition_core.specs.declared.entries.Entry.{Entry}
-use Rattle.requester_fs.specs.declared.logs.Answer.TheVariants.{Reply, Stamp}
-use Rattle.requester_fs.specs.declared.logs.LogEntry.{LogEntry}
-use Rattle.requester_fs.specs.declared.logs.LogEntry.TheVariants.{Asked, Drew}
+use Rattle.partition_state.specs.declared.entries.Entry.{Entry}
+use Rattle.session_grammar.specs.declared.logs.Answer.TheVariants.{Reply, Stamp}
+use Rattle.session_grammar.specs.declared.logs.LogEntry.{LogEntry}
+use Rattle.session_grammar.specs.declared.logs.LogEntry.TheVariants.{Asked, Drew}
 use Rattle.run_record.specs.declared.records.RunRecord.{RunRecord}
 
 -- a table of two numbers, the first of which is the key

@@ -7,7 +7,7 @@ use Rattle.sql_base.specs.declared.outcomes.Outcome.TheVariants.{Committed}
 use Rattle.one_thread.proofs.Numbers.{lines, numbers}
 use Rattle.one_thread.specs.Text.{run_text}
 use Rattle.one_thread.specs.declared.shown.Shown.{Shown}
-use Rattle.requester_fs.specs.Follows.{requester}
+use Rattle.session_grammar.specs.Follows.{requester}
 use Rattle.run_record.specs.Serial.{final_records}
 use Rattle.run_record.specs.Text.{IsText, ShowSessions, shown_of}
 use Rattle.run_record.proofs.TwoLegal.{reader_reads, writer_reads}

@@ -1,7 +1,7 @@
 -- Worked rows of a record of two sessions.
 use Rattle.std.proofs.Common.{◌≡◌, [], ◌∷◌, refl, lit≤}
 use Rattle.std.specs.List.{AllZip}
-use Rattle.partition_core.specs.History.{IsLegal}
+use Rattle.partition_state.specs.History.{IsLegal}
 use Rattle.run_record.specs.Base.{base}
 use Rattle.run_record.specs.Openings.{openings}
 use Rattle.run_record.specs.Serial.{RanAlone, final_records, next_stamp}

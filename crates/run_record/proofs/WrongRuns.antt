@@ -16,13 +16,14 @@ use Rattle.dp_messages.specs.declared.replies.Reply.{Reply as PartitionReply}
 use Rattle.dp_messages.specs.declared.replies.Reply.TheVariants as reply
 use Rattle.dp_messages.specs.declared.requests.Ask.{Ask}
 use Rattle.dp_messages.specs.declared.requests.Ask.TheVariants as ask
-use Rattle.partition_core.specs.History.{IsLegal}
-use Rattle.requester_fs.specs.Plans.{Sent, plan_of}
-use Rattle.requester_fs.specs.Follows.{projection, requester}
-use Rattle.requester_fs.specs.declared.logs.Answer.TheVariants.{Stamp}
-use Rattle.requester_fs.specs.declared.logs.LogEntry.{LogEntry}
-use Rattle.requester_fs.specs.declared.logs.LogEntry.TheVariants.{Drew}
-use Rattle.run_record.specs.Legal.{AttemptsEnded, EntriesAsked, FloorsCovered, StampsRise}
+use Rattle.partition_state.specs.History.{IsLegal}
+use Rattle.session_grammar.specs.Plans.{Sent, plan_of}
+use Rattle.session_grammar.specs.Follows.{projection, requester}
+use Rattle.session_grammar.specs.declared.logs.Answer.TheVariants.{Stamp}
+use Rattle.session_grammar.specs.declared.logs.LogEntry.{LogEntry}
+use Rattle.session_grammar.specs.declared.logs.LogEntry.TheVariants.{Drew}
+use Rattle.commit_journal.specs.Journal.{StampsRise}
+use Rattle.run_record.specs.Legal.{AttemptsEnded, EntriesAsked, FloorsCovered}
 use Rattle.run_record.specs.Openings.{openings}
 use Rattle.run_record.specs.Serial.{RanAlone}
 use Rattle.run_record.specs.Tiles.{Interval, MatchesAround, PieceTiles, Tiles, TilesOn, around}

@@ -1,14 +1,16 @@
 -- Which records are those of a run of the script.
-use Rattle.std.specs.Prelude.{◌≡◌, ◌≤◌, ◌<◌, ℕ, ◌+◌, max, ◌==◌, List, [], ◌∷◌, length, map, filter, filter_map, find, Option, Some, None, true, ◌↔◌, ◌⊎◌, Contains}
+use Rattle.std.specs.Prelude.{◌≡◌, ◌≤◌, ◌<◌, ℕ, ◌==◌, List, [], ◌∷◌, length, map, filter, filter_map, find, Option, Some, None, true, ◌↔◌, ◌⊎◌, Contains}
 use Rattle.std.specs.List.{AllZip, AllByRecursion, last_or}
 use Rattle.sql_base.specs.Locks.{same_txn}
 use Rattle.sql_base.specs.declared.outcomes.Outcome.TheVariants.{Committed}
 use Rattle.sql_base.specs.Scripts.{IsScript, Lies}
 use Rattle.sql_base.specs.Tables.{all_differ}
-use Rattle.partition_core.specs.History.{IsLegal}
-use Rattle.requester_fs.specs.Rows.{is_for}
-use Rattle.requester_fs.specs.Follows.{Attempt, Reads, IsPart, follows, requester, works_of}
-use Rattle.run_record.specs.Openings.{openings, history_of, log_of, is_of}
+use Rattle.partition_state.specs.History.{IsLegal}
+use Rattle.session_grammar.specs.Rows.{is_for}
+use Rattle.session_grammar.specs.Follows.{Attempt, Reads, IsPart, follows, requester, works_of}
+use Rattle.run_record.specs.Openings.{openings, history_of, log_of}
+use Rattle.partition_state.specs.Commits.{is_of, name_of}
+use Rattle.commit_journal.specs.Journal.{StampsRise}
 use Rattle.sql_base.specs.declared.lock_names.TxnName.{TxnName}
 use Rattle.sql_base.specs.declared.scripts.Script.{Script}
 use Rattle.commit_journal.specs.declared.Drawn.{Drawn}
@@ -16,16 +18,11 @@ use Rattle.dp_messages.specs.declared.replies.Reply.TheVariants as reply
 use Rattle.dp_messages.specs.declared.requests.Ask.{Ask}
 use Rattle.dp_messages.specs.declared.requests.Ask.TheVariants.{EndCommit, EndUndo}
 use Rattle.dp_messages.specs.declared.requests.Request.{Request}
-use Rattle.partition_core.specs.declared.entries.Entry.{Entry}
-use Rattle.requester_fs.specs.declared.logs.Answer.TheVariants.{Reply, Stamp}
-use Rattle.requester_fs.specs.declared.logs.LogEntry.{LogEntry}
-use Rattle.requester_fs.specs.declared.logs.LogEntry.TheVariants.{Asked, Drew}
+use Rattle.partition_state.specs.declared.entries.Entry.{Entry}
+use Rattle.session_grammar.specs.declared.logs.Answer.TheVariants.{PathFailed, Reply, Stamp}
+use Rattle.session_grammar.specs.declared.logs.LogEntry.{LogEntry}
+use Rattle.session_grammar.specs.declared.logs.LogEntry.TheVariants.{Asked, Drew}
 use Rattle.run_record.specs.declared.records.RunRecord.{RunRecord}
-
--- each stamp is one more than the greater of the stamp before it and its own floor
-abbrev pub StampsRise : ℕ → List Drawn → Type 0
-StampsRise last [] = Unit {0}
-StampsRise last (d ∷ journal) = (d.stamp ≡ max last d.floor + 1) × StampsRise d.stamp journal
 
 -- the stamps that a log drew, with their floors
 abbrev pub drawn_by : LogEntry → Option Drawn
@@ -56,8 +53,10 @@ abbrev pub AreServed : List LogEntry → List Entry → Type 0
 AreServed [] es = es ≡ []
 AreServed (Asked part sync request losses (Reply r) ∷ log) [] = ⊥
 AreServed (Asked part sync request losses (Reply r) ∷ log) (e ∷ es) = IsServed e sync request × (e.reply ≡ r) × AreServed log es
-AreServed (Asked part sync request losses answer ∷ log) [] = AreServed log []
-AreServed (Asked part sync request losses answer ∷ log) (e ∷ es) = AreServed log (e ∷ es) ⊎ (IsServed e sync request × AreServed log es)
+AreServed (Asked part sync request losses PathFailed ∷ log) [] = AreServed log []
+AreServed (Asked part sync request losses PathFailed ∷ log) (e ∷ es) = AreServed log (e ∷ es) ⊎ (IsServed e sync request × AreServed log es)
+-- a stamp is drawn, and never the answer of a partition
+AreServed (Asked part sync request losses (Stamp stamp) ∷ log) es = ⊥
 AreServed (Drew name floor answer ∷ log) es = AreServed log es
 
 -- every history has just the entries that the sessions asked
@@ -81,13 +80,10 @@ EndsBy t history None = (last_ask t history ≡ Some EndUndo) × NoCommit t hist
 abbrev pub in_journal : RunRecord → TxnName → Option Drawn
 in_journal kept t = find (λ d. same_txn d.name t) kept.journal
 
-abbrev pub name_of : Entry → TxnName
-name_of e = record { session = e.opener; ordinal = e.request.ordinal }
-
 pub record AttemptsEnded (script : Script) (kept : RunRecord) : Type 0 where
   pub ends : AllByRecursion (λ history. AllByRecursion (λ e. EndsBy (name_of e) history (in_journal kept (name_of e))) history) kept.histories
   -- an attempt in the journal committed, so none of its transaction follows it
-  pub committed : (session : ℕ) (attempts : List Attempt) (a : Attempt) (d : Drawn)
+  pub committed : (session : ℕ) (attempts : List Attempt) (a : Attempt) (d : Drawn) → Lies 1 (length script.sessions) session
       → Reads IsPart (requester script session) (works_of script session) (log_of kept session) attempts → Contains attempts a
       → in_journal kept (record { session = session; ordinal = a.ordinal }) ≡ Some d → a.outcome ≡ Committed d.stamp
 

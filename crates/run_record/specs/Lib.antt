@@ -3,9 +3,6 @@ pub mod Legal
 pub mod Tiles
 pub mod Base
 pub mod Serial
-pub mod Settled
 pub mod Seen
 pub mod Text
-pub mod ThinText
 pub mod Headline
-pub mod WholeScan

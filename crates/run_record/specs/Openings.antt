@@ -1,17 +1,16 @@
 -- How a record's partitions begin, and how its parts are found.
-use Rattle.std.specs.Prelude.{ℕ, ◌+◌, ◌-◌, ◌==◌, List, [], ◌∷◌, ◌++◌, length, map, filter, slice_get, unwrap_or, Bool, ◌&&◌}
+use Rattle.std.specs.Prelude.{ℕ, ◌+◌, ◌-◌, ◌==◌, List, [], ◌∷◌, ◌++◌, length, map, filter, slice_get, unwrap_or}
 use Rattle.std.specs.List.{range_with_len}
 use Rattle.sql_base.specs.Rows.{key_of}
 use Rattle.partition_map.specs.Map.{part_of}
-use Rattle.partition_core.specs.State.{State, opening}
+use Rattle.partition_state.specs.State.{State, opening}
 use Rattle.one_thread.specs.One.{loaded}
-use Rattle.sql_base.specs.declared.lock_names.TxnName.{TxnName}
 use Rattle.sql_base.specs.declared.scripts.Limits.{Limits}
 use Rattle.sql_base.specs.declared.scripts.Script.{Script}
 use Rattle.sql_base.specs.declared.tables.TableDef.{TableDef}
 use Rattle.sql_base.specs.declared.values.Value.{Value}
-use Rattle.partition_core.specs.declared.entries.Entry.{Entry}
-use Rattle.requester_fs.specs.declared.logs.LogEntry.{LogEntry}
+use Rattle.partition_state.specs.declared.entries.Entry.{Entry}
+use Rattle.session_grammar.specs.declared.logs.LogEntry.{LogEntry}
 use Rattle.run_record.specs.declared.records.RunRecord.{RunRecord}
 
 -- the records that lie in one partition of their table
@@ -34,7 +33,3 @@ history_of kept part = unwrap_or (slice_get kept.histories part) []
 
 abbrev pub log_of : RunRecord → ℕ → List LogEntry
 log_of kept session = unwrap_or (slice_get kept.logs (session - 1)) []
-
--- the entry is one of the attempt
-abbrev pub is_of : TxnName → Entry → Bool
-is_of t e = (e.opener == t.session) && (e.request.ordinal == t.ordinal)

@@ -11,7 +11,7 @@ use Rattle.dp_messages.specs.declared.replies.Reply.TheVariants as reply
 use Rattle.dp_messages.specs.declared.requests.Ask.{Ask}
 use Rattle.dp_messages.specs.declared.requests.Ask.TheVariants as ask
 use Rattle.outside.specs.declared.collector.Seen.{Seen}
-use Rattle.partition_core.specs.declared.entries.Entry.{Entry}
+use Rattle.partition_state.specs.declared.entries.Entry.{Entry}
 use Rattle.run_record.specs.Tiles.{reply_rows, reply_changed}
 use Rattle.run_record.specs.declared.records.RunRecord.{RunRecord}
 

@@ -6,14 +6,15 @@ use Rattle.sql_base.specs.declared.outcomes.Given.TheVariants.{Rows, Count, Sile
 use Rattle.sql_base.specs.Rows.{chosen, kinds}
 use Rattle.sql_base.specs.Scripts.{Lies}
 use Rattle.key_sequenced.specs.Cells.{records}
-use Rattle.partition_core.specs.History.{replay}
+use Rattle.partition_state.specs.History.{replay}
 use Rattle.one_thread.specs.One.{Commits, run_work}
-use Rattle.requester_fs.specs.Plans.{Requester, plan_of}
-use Rattle.requester_fs.specs.Follows.{Attempt, Reads, IsPart, projection, requester, works_of}
+use Rattle.session_grammar.specs.Plans.{Requester, plan_of}
+use Rattle.session_grammar.specs.Follows.{Attempt, Reads, IsPart, projection, requester, works_of}
 use Rattle.run_record.specs.Openings.{openings, log_of}
 use Rattle.run_record.specs.Legal.{in_journal}
 use Rattle.run_record.specs.Tiles.{reply_rows, reply_changed, sents_of}
-use Rattle.run_record.specs.Base.{base, base_of, by_part, by_table, changes, laid}
+use Rattle.run_record.specs.Base.{base, base_of, by_part, by_table, changes}
+use Rattle.key_sequenced.specs.Changes.{laid}
 use Rattle.sql_base.specs.declared.lock_names.Access.{Access}
 use Rattle.sql_base.specs.declared.lock_names.Access.TheVariants.{Browse, Stable, Repeatable}
 use Rattle.sql_base.specs.declared.scripts.Script.{Script}
@@ -21,9 +22,9 @@ use Rattle.sql_base.specs.declared.statements.Statement.{Statement}
 use Rattle.sql_base.specs.declared.statements.Statement.TheVariants.{Select, Update, Delete, Insert, LockTable}
 use Rattle.sql_base.specs.declared.values.Value.{Value}
 use Rattle.commit_journal.specs.declared.Drawn.{Drawn}
-use Rattle.requester_fs.specs.declared.logs.Answer.TheVariants.{Reply}
-use Rattle.requester_fs.specs.declared.logs.LogEntry.{LogEntry}
-use Rattle.requester_fs.specs.declared.logs.LogEntry.TheVariants.{Asked}
+use Rattle.session_grammar.specs.declared.logs.Answer.TheVariants.{Reply}
+use Rattle.session_grammar.specs.declared.logs.LogEntry.{LogEntry}
+use Rattle.session_grammar.specs.declared.logs.LogEntry.TheVariants.{Asked}
 use Rattle.run_record.specs.declared.records.RunRecord.{RunRecord}
 
 -- the statements that see the same at any time of their transaction

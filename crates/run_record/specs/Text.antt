@@ -2,8 +2,8 @@
 use Rattle.std.specs.Prelude.{◌≡◌, ℕ, ◌+◌, List, [], ◌∷◌, ◌++◌, map}
 use Rattle.one_thread.specs.Text.{run_text}
 use Rattle.one_thread.specs.declared.shown.Shown.{Shown}
-use Rattle.requester_fs.specs.Plans.{Requester}
-use Rattle.requester_fs.specs.Follows.{Attempt, Reads, IsPart, requester}
+use Rattle.session_grammar.specs.Plans.{Requester}
+use Rattle.session_grammar.specs.Follows.{Attempt, Reads, IsPart, requester}
 use Rattle.run_record.specs.Openings.{log_of}
 use Rattle.run_record.specs.Serial.{givens_of, final_records}
 use Rattle.sql_base.specs.declared.scripts.Script.{Script}

@@ -1,5 +1,5 @@
 -- That a statement covered its key range once, with just the records that met its predicate then.
-use Rattle.std.specs.Prelude.{◌≡◌, ℕ, ◌+◌, ◌==◌, List, [], ◌∷◌, ◌++◌, length, map, filter, filter_map, count_by, position, slice_get, Option, Some, None, option_map, option_and_then, Bool, true, false, not, ◌&&◌, Contains, if◌then◌else◌}
+use Rattle.std.specs.Prelude.{◌≡◌, ℕ, ◌+◌, ◌==◌, List, [], ◌∷◌, length, map, filter, filter_map, count_by, position, slice_get, Option, Some, None, option_map, option_and_then, Bool, true, false, not, ◌&&◌, Contains, if◌then◌else◌}
 use Rattle.std.specs.List.{AllByRecursion}
 use Rattle.sql_base.specs.Keys.{key_le, key_eq}
 use Rattle.sql_base.specs.Rows.{packed, key_of}
@@ -7,12 +7,13 @@ use Rattle.sql_base.specs.Val.{filter_val}
 use Rattle.sql_base.specs.OnRows.{first_failing, updated}
 use Rattle.sql_base.specs.Scripts.{Lies}
 use Rattle.sql_base.specs.Tables.{table_of}
+use Rattle.key_sequenced.specs.Changes.{put}
 use Rattle.key_sequenced.specs.Cells.{Keyed, records}
-use Rattle.quantum_core.specs.Verdicts.{is_from}
-use Rattle.partition_core.specs.History.{before}
+use Rattle.sql_base.specs.Keys.{is_from}
+use Rattle.partition_state.specs.History.{before}
 use Rattle.one_thread.specs.One.{meets, fault_on, new_row_fault, row_after}
-use Rattle.requester_fs.specs.Plans.{Sent, Plan, Subsets, Singles, plan_of}
-use Rattle.requester_fs.specs.Follows.{Attempt, Reads, IsPart, AreTheirs, projection, requester, works_of}
+use Rattle.session_grammar.specs.Plans.{Sent, Plan, Subsets, Singles, plan_of}
+use Rattle.session_grammar.specs.Follows.{Attempt, Reads, IsPart, AreTheirs, projection, requester, works_of}
 use Rattle.run_record.specs.Openings.{openings, history_of, log_of}
 use Rattle.sql_base.specs.declared.faults.Fault.{Fault}
 use Rattle.sql_base.specs.declared.key_ranges.KeyRange.{KeyRange}
@@ -27,9 +28,9 @@ use Rattle.dp_messages.specs.declared.replies.Reply.{Reply as PartitionReply}
 use Rattle.dp_messages.specs.declared.replies.Reply.TheVariants as reply
 use Rattle.dp_messages.specs.declared.requests.Ask.{Ask}
 use Rattle.dp_messages.specs.declared.requests.Ask.TheVariants as ask
-use Rattle.requester_fs.specs.declared.logs.Answer.TheVariants.{Reply}
-use Rattle.requester_fs.specs.declared.logs.LogEntry.{LogEntry}
-use Rattle.requester_fs.specs.declared.logs.LogEntry.TheVariants.{Asked, Drew}
+use Rattle.session_grammar.specs.declared.logs.Answer.TheVariants.{Reply}
+use Rattle.session_grammar.specs.declared.logs.LogEntry.{LogEntry}
+use Rattle.session_grammar.specs.declared.logs.LogEntry.TheVariants.{Asked, Drew}
 use Rattle.run_record.specs.declared.records.RunRecord.{RunRecord}
 
 -- the keys that an entry handled: from a start to an end that is included
@@ -162,12 +163,11 @@ abbrev pub part_asked : LogEntry → ℕ
 part_asked (Asked part sync request losses answer) = part
 part_asked (Drew name floor answer) = 0
 
--- just this record came, and none with its key stood
+-- just this record came, at its place in key order, and none with its key stood
 abbrev pub IsAdded : List ℕ → List Value → Option Around → Type 0
 IsAdded key row None = ⊥
 IsAdded key row (Some a) =
-    (front : List Keyed) × (back : List Keyed) × (a.held ≡ front ++ back) × (a.after ≡ front ++ record { key = key; row = row } ∷ back)
-    × AllByRecursion (λ k. key_eq k.key key ≡ false) a.held
+    (a.after ≡ put key row a.held) × AllByRecursion (λ k. key_eq k.key key ≡ false) a.held
 
 abbrev pub StaysAround : Option Around → Type 0
 StaysAround None = ⊥

@@ -1,7 +1,7 @@
 use commit_journal::Drawn;
 use outside::Passage;
-use partition_core::Entry;
-use requester_fs::LogEntry;
+use partition_state::Entry;
+use session_grammar::LogEntry;
 use sql_base::List;
 
 /// One action of a scheduled run. Sessions count from 1, the partitions of all tables from 0.

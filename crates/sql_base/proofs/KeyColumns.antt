@@ -1,10 +1,10 @@
 -- The key columns of a row, one after the other.
-use Rattle.std.proofs.Common.{◌≡◌, ℕ, zero, suc, ◌+◌, ◌<◌, List, [], ◌∷◌, ◌++◌, length, take, get_or, map, Bool, true, false, ◌&&◌, Option, Some, None, refl, ap, sym, ◌∙◌, arith, append_assoc}
+use Rattle.std.proofs.Common.{◌≡◌, ℕ, zero, suc, ◌+◌, ◌<◌, List, [], ◌∷◌, ◌++◌, length, take, get_or, Bool, true, false, ◌&&◌, Option, Some, None, refl, ap, sym, ◌∙◌, arith, append_assoc}
 use Rattle.std.specs.Prelude.{slice_get}
 use Rattle.std.specs.List.{cons_option}
 use Rattle.std.proofs.lemmas.List.{append-nil}
 use Rattle.sql_base.proofs.Choosing.{chosen_more}
-use Rattle.sql_base.specs.Rows.{chosen, kinds, key_value, key_values, are_of_kinds, is_of_kind}
+use Rattle.sql_base.specs.Rows.{chosen, key_value, key_values, are_of_kinds, is_of_kind}
 use Rattle.sql_base.specs.declared.tables.ColumnKind.{ColumnKind}
 use Rattle.sql_base.specs.declared.values.Value.{Value}
 

@@ -1,6 +1,9 @@
 pub mod Choosing
 pub mod KeyColumns
 pub mod KeyOrder
+pub mod KeyOrders
 pub mod Trees
 pub mod UnpackedLength
 mod WorkedRows
+pub mod CommonPrefixes
+pub mod FaultsOfKeys

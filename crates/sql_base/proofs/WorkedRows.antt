@@ -1,7 +1,9 @@
 -- Worked rows of values, keys, codes and locks: each definition gives the row's answer.
-use Rattle.std.proofs.Common.{◌≡◌, ℤ, ℕ, pos, negsuc, List, [], ◌∷◌, true, false, Some, None, Ok, Err, refl, ap, ◌∙◌}
+use Rattle.std.proofs.Common.{◌≡◌, ℤ, ℕ, pos, negsuc, List, [], ◌∷◌, true, false, Some, None, Ok, Err, refl}
 use Rattle.std.specs.Prelude.{codes, slice_get}
+use Rattle.sql_base.specs.Kinds.{kind_step}
 use Rattle.sql_base.specs.Locks.{first_conflict, granted}
+use Rattle.sql_base.specs.Names.{IsName, is_keyword}
 use Rattle.sql_base.specs.Rows.{key_value, packed, unpacked}
 use Rattle.sql_base.specs.Val.{Outcome, val, val_step, IsNumber, IsText, IsTruth, both, computed, compared, unless_left_is, column_item}
 use Rattle.sql_base.proofs.Trees.{fold-Number, fold-Text, fold-Column, fold-Arith, fold-Compare, fold-And}
@@ -11,6 +13,8 @@ use Rattle.sql_base.specs.declared.expressions.CompareOp.{CompareOp}
 use Rattle.sql_base.specs.declared.expressions.CompareOp.TheVariants.{Eq, Lt}
 use Rattle.sql_base.specs.declared.expressions.Expr.{Expr}
 use Rattle.sql_base.specs.declared.expressions.Expr.TheVariants as expr
+use Rattle.sql_base.specs.declared.expressions.Expr.TheOpen as layer
+use Rattle.sql_base.specs.declared.tables.TableDef.{TableDef}
 use Rattle.sql_base.specs.declared.faults.EvalFault.TheVariants.{Overflow, ZeroDivide}
 use Rattle.sql_base.specs.declared.lock_names.Lock.{Lock}
 use Rattle.sql_base.specs.declared.lock_names.Mode.{Mode}
@@ -103,3 +107,17 @@ own_lock_is_no_conflict = refl
 
 covered_grant_adds_nothing : granted (lock first (65 ∷ 66 ∷ []) S) (granted (lock first (65 ∷ []) X) []) ≡ lock first (65 ∷ []) X ∷ []
 covered_grant_adds_nothing = refl
+
+-- a number of more than 64 bits has no kind
+wide_number_is_untyped : (table : TableDef) → kind_step table (layer.Number (pos 9223372036854775808)) ≡ None
+wide_number_is_untyped table = refl
+
+-- names: letters, digits and `_` behind a letter; a keyword names nothing, the same word in lower case does
+name_with_digit : IsName (codes "k_1")
+name_with_digit = record { letter = refl; bytes = refl; free = refl }
+
+lower_case_names : IsName (codes "select")
+lower_case_names = record { letter = refl; bytes = refl; free = refl }
+
+keyword_is_no_name : is_keyword (codes "SELECT") ≡ true
+keyword_is_no_name = refl

@@ -3,6 +3,8 @@ use Rattle.std.specs.Prelude.{◌≡◌, ℕ, List, [], ◌∷◌, take, nat_eq,
 use Rattle.std.specs.List.{common_prefix_len}
 use Rattle.std.specs.Ordering.{is_eq, is_lt, is_le, nat_cmp}
 use Rattle.std.specs.Cmp.Lexicographic.{slice_cmp}
+use Rattle.sql_base.specs.declared.key_ranges.Start.{Start}
+use Rattle.sql_base.specs.declared.key_ranges.Start.TheVariants.{At, After}
 
 -- byte order, a prefix before its extensions
 abbrev pub key_lt : List ℕ → List ℕ → Bool
@@ -24,6 +26,11 @@ key_min a b = if key_lt b a then b else a
 -- the key lies from low to high, both included
 abbrev pub is_within : List ℕ → List ℕ → List ℕ → Bool
 is_within low high key = key_le low key && key_le key high
+
+-- the key isn't before the start
+abbrev pub is_from : Start → List ℕ → Bool
+is_from (At start) key = key_le start key
+is_from (After last) key = key_lt last key
 
 -- the keys strictly rise
 abbrev pub Rise : List (List ℕ) → Type 0

@@ -1,6 +1,6 @@
 -- Which expressions are well typed over a table, and within the limits.
-use Rattle.std.specs.Prelude.{◌≡◌, ◌≤◌, ℕ, ◌+◌, max, nat_le, List, length, Option, Some, None, slice_get, Bool, true, ◌&&◌, if◌then◌else◌}
-use Rattle.sql_base.specs.Rows.{kinds, is_printable}
+use Rattle.std.specs.Prelude.{◌≡◌, ◌≤◌, ℕ, ◌+◌, max, nat_le, length, Option, Some, None, slice_get, ◌&&◌, if◌then◌else◌}
+use Rattle.sql_base.specs.Rows.{kinds, in_i64, is_printable}
 use Rattle.sql_base.specs.Codes.{code_of}
 use Rattle.sql_base.specs.declared.expressions.Expr.{Expr, fold-Expr}
 use Rattle.sql_base.specs.declared.expressions.Expr.TheOpen.{Expr-F, Number, Text, Column, Arith, Compare, And, Or, Not}
@@ -35,7 +35,7 @@ of_truths (Some OfTruth) (Some OfTruth) = Some OfTruth
 of_truths a b = None
 
 abbrev pub kind_step : TableDef → Expr-F (Option Kind) → Option Kind
-kind_step table (Number n) = Some OfNumber
+kind_step table (Number n) = if in_i64 n then Some OfNumber else None
 kind_step table (Text text) = if nat_le (length text) 255 && is_printable text then Some (OfText (length text)) else None
 kind_step table (Column c) = kind_of_column (slice_get (kinds table) c)
 kind_step table (Arith op a b) = of_arith a b

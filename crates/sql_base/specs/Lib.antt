@@ -1,4 +1,5 @@
 pub mod Keys
+pub mod Names
 pub mod Rows
 pub mod Val
 pub mod OnRows
@@ -7,3 +8,4 @@ pub mod Kinds
 pub mod Locks
 pub mod Tables
 pub mod Scripts
+pub mod KeyFaults

@@ -1,5 +1,5 @@
 -- What an UPDATE and the CHECKs make of one row.
-use Rattle.std.specs.Prelude.{ℕ, ◌+◌, List, [], ◌∷◌, slice_get, slice_set, Option, Some, None, option_map, unwrap_or, Bool, true, false, Result, Ok, Err}
+use Rattle.std.specs.Prelude.{ℕ, ◌+◌, List, [], ◌∷◌, slice_get, slice_set, Option, Some, None, option_map, unwrap_or, false, Result, Ok, Err}
 use Rattle.sql_base.specs.Rows.{padded, width, kinds}
 use Rattle.sql_base.specs.Val.{val, Item, Outcome, IsNumber, IsText, IsTruth, IsNothing}
 use Rattle.sql_base.specs.declared.expressions.Expr.{Expr}

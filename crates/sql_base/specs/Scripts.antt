@@ -1,5 +1,5 @@
 -- The rules that a script meets.
-use Rattle.std.specs.Prelude.{◌≡◌, ◌≤◌, ◌<◌, ℕ, ◌+◌, ◌*◌, List, length, map, sum_by, nat_eq, Option, Some, None, slice_get, Bool, true}
+use Rattle.std.specs.Prelude.{◌≡◌, ◌≤◌, ◌<◌, ℕ, ◌+◌, ◌*◌, List, length, map, sum_by, nat_eq, Some, None, slice_get, true}
 use Rattle.std.specs.List.{AllByRecursion}
 use Rattle.std.specs.Str.{bytes_eq}
 use Rattle.sql_base.specs.Rows.{AreRecords}
@@ -9,7 +9,6 @@ use Rattle.sql_base.specs.declared.scripts.Limits.{Limits}
 use Rattle.sql_base.specs.declared.scripts.Load.{Load}
 use Rattle.sql_base.specs.declared.scripts.Script.{Script}
 use Rattle.sql_base.specs.declared.tables.TableDef.{TableDef}
-use Rattle.sql_base.specs.declared.values.Value.{Value}
 
 -- the number lies from low to high
 abbrev pub Lies : ℕ → ℕ → ℕ → Type 0

@@ -1,9 +1,10 @@
 -- The rules that a table declaration and a statement on it meet.
-use Rattle.std.specs.Prelude.{◌≡◌, ◌≢◌, ◌≤◌, ◌<◌, ℕ, ◌-◌, List, [], ◌∷◌, ◌++◌, length, replicate, map, nat_eq, nat_le, Option, Some, None, slice_get, Bool, true, false, not, ◌&&◌}
+use Rattle.std.specs.Prelude.{◌≡◌, ◌≤◌, ◌<◌, ℕ, ◌-◌, List, [], ◌∷◌, ◌++◌, length, replicate, map, nat_eq, nat_le, Option, Some, None, slice_get, Bool, true, false, not, ◌&&◌}
 use Rattle.std.specs.List.{list_any, AllByRecursion}
 use Rattle.std.specs.Str.{bytes_eq}
-use Rattle.sql_base.specs.Keys.{Rise, key_lt}
-use Rattle.sql_base.specs.Rows.{kinds, key_kinds, key_width, row_width, key_values, is_printable, IsRow}
+use Rattle.sql_base.specs.Keys.{Rise}
+use Rattle.sql_base.specs.Names.{IsShortName}
+use Rattle.sql_base.specs.Rows.{kinds, key_kinds, key_width, row_width, key_values, in_i64, is_printable, IsRow}
 use Rattle.sql_base.specs.Kinds.{Kind, OfNumber, OfText, OfTruth, IsExpr}
 use Rattle.sql_base.specs.Codes.{sets_code}
 use Rattle.sql_base.specs.declared.expressions.Expr.{Expr}
@@ -31,7 +32,7 @@ pub record AreColumns (table : TableDef) (columns : List ℕ) : Type 0 where
 
 -- a literal that a key column can be compared with or begin at
 abbrev pub is_literal_of : ColumnKind → Value → Bool
-is_literal_of Int (value.Int n) = true
+is_literal_of Int (value.Int n) = in_i64 n
 is_literal_of (Char width) (value.Text text) = nat_le (length text) width && is_printable text
 is_literal_of Int (value.Text text) = false
 is_literal_of (Char width) (value.Int n) = false
@@ -59,11 +60,11 @@ abbrev pub IsWidth : ColumnKind → Type 0
 IsWidth Int = Unit {0}
 IsWidth (Char n) = (1 ≤ n) × (n ≤ 255)
 
--- a table that may be declared; that a name is a word of its form is the reader's rule
+-- a table that may be declared
 pub record IsTable (table : TableDef) : Type 0 where
-  pub name : length table.name ≤ 30
+  pub name : IsShortName table.name
   pub columns : length table.columns ≤ 32
-  pub column_names : AllByRecursion (λ column. length column.name ≤ 30) table.columns
+  pub column_names : AllByRecursion (λ column. IsShortName column.name) table.columns
   pub names_differ : all_differ bytes_eq (map (λ column. column.name) table.columns) ≡ true
   pub widths : AllByRecursion IsWidth (kinds table)
   pub row : row_width table ≤ 256

@@ -1,11 +1,13 @@
-ghost use Rattle.std.specs.Prelude.{◌≡◌, IfOk};
+//! Byte strings by what they are.
 
-use crate::faults::NoMemory;
-use std::alloc::Global;
+ghost use Rattle.std.specs.Prelude.{◌≡◌};
+ghost use Rattle.std.specs.Int.{is_in_range};
+ghost use Rattle.sql_base.specs.Rows.{is_printable};
+
 use std::marker::Model;
 
 /// The name of a table or column: a letter, then letters, digits and `_`.
-#[derive(Debug, Drop)]
+#[derive(Clone, Debug, Drop)]
 pub struct Name {
     bytes: Vec<u8>,
 }
@@ -30,18 +32,10 @@ impl Name {
     {
         self.bytes.as_slice()
     }
-
-    /// A copy of its own, equal to this one.
-    pub fn copied(&self, alloc: Global) -> Result<Name, NoMemory>
-        ensures { IfOk result (λ copy. copy ≡ self.now) }
-    {
-        let bytes = self.bytes.as_slice().to_vec(alloc)?;
-        Ok(Name { bytes })
-    }
 }
 
 /// A text value. In a row it has just the length of its column, each byte in 32..126.
-#[derive(Debug, Drop)]
+#[derive(Clone, Debug, Drop)]
 pub struct Text {
     bytes: Vec<u8>,
 }
@@ -66,18 +60,10 @@ impl Text {
     {
         self.bytes.as_slice()
     }
-
-    /// A copy of its own, equal to this one.
-    pub fn copied(&self, alloc: Global) -> Result<Text, NoMemory>
-        ensures { IfOk result (λ copy. copy ≡ self.now) }
-    {
-        let bytes = self.bytes.as_slice().to_vec(alloc)?;
-        Ok(Text { bytes })
-    }
 }
 
 /// A key: the encoded key columns of a row, in byte order the order of the values.
-#[derive(Debug, Drop)]
+#[derive(Clone, Debug, Drop)]
 pub struct Key {
     bytes: Vec<u8>,
 }
@@ -102,18 +88,10 @@ impl Key {
     {
         self.bytes.as_slice()
     }
-
-    /// A copy of its own, equal to this one.
-    pub fn copied(&self, alloc: Global) -> Result<Key, NoMemory>
-        ensures { IfOk result (λ copy. copy ≡ self.now) }
-    {
-        let bytes = self.bytes.as_slice().to_vec(alloc)?;
-        Ok(Key { bytes })
-    }
 }
 
 /// A granule of locks: the leading bytes of keys. The empty one is the whole file, a whole key one record.
-#[derive(Debug, Drop)]
+#[derive(Clone, Debug, Drop)]
 pub struct Prefix {
     bytes: Vec<u8>,
 }
@@ -138,18 +116,10 @@ impl Prefix {
     {
         self.bytes.as_slice()
     }
-
-    /// A copy of its own, equal to this one.
-    pub fn copied(&self, alloc: Global) -> Result<Prefix, NoMemory>
-        ensures { IfOk result (λ copy. copy ≡ self.now) }
-    {
-        let bytes = self.bytes.as_slice().to_vec(alloc)?;
-        Ok(Prefix { bytes })
-    }
 }
 
 /// The columns of a row, one after the other: an INT as 8 bytes big-endian, a text as its bytes.
-#[derive(Debug, Drop)]
+#[derive(Clone, Debug, Drop)]
 pub struct Packed {
     bytes: Vec<u8>,
 }
@@ -174,18 +144,10 @@ impl Packed {
     {
         self.bytes.as_slice()
     }
-
-    /// A copy of its own, equal to this one.
-    pub fn copied(&self, alloc: Global) -> Result<Packed, NoMemory>
-        ensures { IfOk result (λ copy. copy ≡ self.now) }
-    {
-        let bytes = self.bytes.as_slice().to_vec(alloc)?;
-        Ok(Packed { bytes })
-    }
 }
 
 /// The bytes of a compiled expression or SET list.
-#[derive(Debug, Drop)]
+#[derive(Clone, Debug, Drop)]
 pub struct Code {
     bytes: Vec<u8>,
 }
@@ -210,12 +172,17 @@ impl Code {
     {
         self.bytes.as_slice()
     }
+}
 
-    /// A copy of its own, equal to this one.
-    pub fn copied(&self, alloc: Global) -> Result<Code, NoMemory>
-        ensures { IfOk result (λ copy. copy ≡ self.now) }
-    {
-        let bytes = self.bytes.as_slice().to_vec(alloc)?;
-        Ok(Code { bytes })
-    }
+/// Whether each byte is in 32..126.
+pub fn is_printable(bytes: &[u8]) -> bool
+    ensures { result ≡ is_printable bytes.now }
+{
+    bytes.iter().all(|byte| is_text_byte(*byte))
+}
+
+fn is_text_byte(byte: u8) -> bool
+    ensures { result ≡ is_in_range 32 126 byte }
+{
+    matches!(byte, 32..=126)
 }

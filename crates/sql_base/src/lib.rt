@@ -4,6 +4,7 @@
 mod bytes;
 mod expressions;
 mod faults;
+mod granules;
 mod key_ranges;
 mod keys;
 mod lists;
@@ -16,11 +17,14 @@ mod tables;
 mod unpacking;
 mod values;
 
-pub use bytes::{Code, Key, Name, Packed, Prefix, Text};
+pub use bytes::{Code, Key, Name, Packed, Prefix, Text, is_printable};
 pub use expressions::{ArithOp, CompareOp, Expr};
 pub use faults::{Cause, EvalFault, Fault, NoMemory};
+pub use granules::{common_prefix, overlaps};
 pub use key_ranges::{KeyRange, Start};
-pub use keys::encode_key;
+pub use keys::{
+    KeyFault, append_key_value, append_padded, encode_key, key_number, row_key, width_of,
+};
 pub use lists::List;
 pub use lock_names::{Access, Lock, Mode, TxnName};
 pub use outcomes::{Abort, Given, Outcome};
@@ -30,6 +34,3 @@ pub use statements::{Assign, Statement};
 pub use tables::{Column, ColumnKind, TableDef};
 pub use unpacking::{UnpackFault, unpack};
 pub use values::{Row, Value};
-
-#[cfg(test)]
-mod tests;

@@ -1,11 +1,11 @@
-ghost use Rattle.std.specs.Prelude.{◌≡◌, ◌++◌, ◌∷◌, [], IfOk, OnOk, OnErr};
+ghost use Rattle.std.specs.Prelude.{◌≡◌, ◌++◌, ◌∷◌, [], OnOk, OnErr};
 
 use crate::faults::NoMemory;
 use std::alloc::Global;
 use std::marker::Model;
 
 /// A growing list, which contracts see as the list of its items.
-#[derive(Debug, Drop)]
+#[derive(Clone, Debug, Drop)]
 pub struct List<T> {
     items: Vec<T>,
 }
@@ -59,15 +59,5 @@ impl<T: Drop> List<T> {
     {
         self.items.push(item)?;
         Ok(())
-    }
-}
-
-impl List<u8> {
-    /// A copy of its own, equal to this one.
-    pub fn copied(&self, alloc: Global) -> Result<List<u8>, NoMemory>
-        ensures { IfOk result (λ copy. copy ≡ self.now) }
-    {
-        let items = self.items.as_slice().to_vec(alloc)?;
-        Ok(List { items })
     }
 }

@@ -1,8 +1,4 @@
-ghost use Rattle.std.specs.Prelude.{◌≡◌, IfOk};
-
 use crate::bytes::Prefix;
-use crate::faults::NoMemory;
-use std::alloc::Global;
 
 /// The mode of a lock: shared or exclusive.
 #[derive(Clone, Copy, Debug, PartialEq, Eq)]
@@ -30,22 +26,9 @@ pub struct TxnName {
 }
 
 /// A lock on a granule.
-#[derive(Debug, Drop)]
+#[derive(Clone, Debug, Drop)]
 pub struct Lock {
     pub holder: TxnName,
     pub prefix: Prefix,
     pub mode: Mode,
-}
-
-impl Lock {
-    /// A copy of its own, equal to this one.
-    pub fn copied(&self, alloc: Global) -> Result<Lock, NoMemory>
-        ensures { IfOk result (λ copy. copy ≡ self.now) }
-    {
-        Ok(Lock {
-            holder: self.holder,
-            prefix: self.prefix.copied(alloc)?,
-            mode: self.mode,
-        })
-    }
 }

@@ -1,4 +1,4 @@
-ghost use Rattle.std.specs.Prelude.{◌≡◌, ◌++◌, ◌∷◌, [], IfOk, OnOk};
+ghost use Rattle.std.specs.Prelude.{◌≡◌, [], IfOk};
 
 use crate::bytes::Name;
 use crate::expressions::Expr;
@@ -14,22 +14,10 @@ pub enum ColumnKind {
     Char(u8),
 }
 
-#[derive(Debug, Drop)]
+#[derive(Clone, Debug, Drop)]
 pub struct Column {
     pub name: Name,
     pub kind: ColumnKind,
-}
-
-impl Column {
-    /// A copy of its own, equal to this one.
-    pub fn copied(&self, alloc: Global) -> Result<Column, NoMemory>
-        ensures { IfOk result (λ copy. copy ≡ self.now) }
-    {
-        Ok(Column {
-            name: self.name.copied(alloc)?,
-            kind: self.kind,
-        })
-    }
 }
 
 /// A table as it is declared. Its records lie in one more partition than it has first keys.
@@ -52,28 +40,11 @@ impl TableDef {
         ensures { IfOk result (λ copy. copy ≡ self.now) }
     {
         Ok(TableDef {
-            name: self.name.copied(alloc)?,
-            columns: columns_copied(alloc, self.columns.items())?,
-            key: self.key.copied(alloc)?,
+            name: self.name.clone()?,
+            columns: self.columns.clone()?,
+            key: self.key.clone()?,
             checks: List::new(alloc),
             firsts: List::new(alloc),
         })
     }
-}
-
-fn columns_copied(alloc: Global, columns: &[Column]) -> Result<List<Column>, NoMemory>
-    ensures { IfOk result (λ copy. copy ≡ columns.now) }
-{
-    let mut copies = Vec::new(alloc);
-    for column in columns {
-        append_column(&mut copies, alloc, column)?;
-    }
-    Ok(List::from_vec(copies))
-}
-
-fn append_column(copies: &mut Vec<Column>, alloc: Global, column: &Column) -> Result<(), NoMemory>
-    ensures { OnOk result (copies.new.items ≡ copies.old.items ++ column.now ∷ []) }
-{
-    copies.push(column.copied(alloc)?)?;
-    Ok(())
 }

@@ -1,8 +1,8 @@
 ghost use Rattle.std.specs.Prelude.{◌≡◌, ◌≢◌, ◌≤◌, ◌↔◌, ℕ, length, sum_by, true, false, IsTrue, IfOk};
-ghost use Rattle.std.specs.Int.{w64, cast_signed, from_be_bytes, is_in_range};
+ghost use Rattle.std.specs.Int.{w64, cast_signed, from_be_bytes};
 ghost use Rattle.sql_base.specs.Rows.{is_printable, unpacked, unpacked_value, width};
 
-use crate::bytes::{Packed, Text};
+use crate::bytes::{Packed, Text, is_printable};
 use crate::faults::NoMemory;
 use crate::keys::width_of;
 use crate::lists::List;
@@ -94,16 +94,4 @@ fn unpack_text(alloc: Global, bytes: &[u8]) -> Result<Text, UnpackFault>
     }
     let bytes = bytes.to_vec(alloc).map_err(NoMemory::from)?;
     Ok(Text::from_vec(bytes))
-}
-
-fn is_printable(bytes: &[u8]) -> bool
-    ensures { result ≡ is_printable bytes.now }
-{
-    bytes.iter().all(|byte| is_text_byte(*byte))
-}
-
-fn is_text_byte(byte: u8) -> bool
-    ensures { result ≡ is_in_range 32 126 byte }
-{
-    matches!(byte, 32..=126)
 }

@@ -1,32 +1,18 @@
-ghost use Rattle.std.specs.Prelude.{◌≡◌, ◌++◌, ◌∷◌, [], IfOk, OnOk};
+ghost use Rattle.std.specs.Prelude.{◌≡◌};
 
 use crate::bytes::Text;
-use crate::faults::NoMemory;
 use crate::lists::List;
-use std::alloc::Global;
 use std::marker::Model;
 
 /// What a column of a row holds.
-#[derive(Debug, Drop)]
+#[derive(Clone, Debug, Drop)]
 pub enum Value {
     Int(i64),
     Text(Text),
 }
 
-impl Value {
-    /// A copy of its own, equal to this one.
-    pub fn copied(&self, alloc: Global) -> Result<Value, NoMemory>
-        ensures { IfOk result (λ copy. copy ≡ self.now) }
-    {
-        match self {
-            Value::Int(number) => Ok(Value::Int(*number)),
-            Value::Text(text) => Ok(Value::Text(text.copied(alloc)?)),
-        }
-    }
-}
-
 /// The values of a row, in the order of the table's columns.
-#[derive(Debug, Drop)]
+#[derive(Clone, Debug, Drop)]
 pub struct Row {
     values: List<Value>,
 }
@@ -52,24 +38,4 @@ impl Row {
     {
         self.values.items()
     }
-
-    /// A copy of its own, equal to this one.
-    pub fn copied(&self, alloc: Global) -> Result<Row, NoMemory>
-        ensures { IfOk result (λ copy. copy ≡ self.now) }
-    {
-        let mut copies = Vec::new(alloc);
-        for value in self.values() {
-            append_copy(&mut copies, alloc, value)?;
-        }
-        Ok(Row {
-            values: List::from_vec(copies),
-        })
-    }
-}
-
-fn append_copy(copies: &mut Vec<Value>, alloc: Global, value: &Value) -> Result<(), NoMemory>
-    ensures { OnOk result (copies.new.items ≡ copies.old.items ++ value.now ∷ []) }
-{
-    copies.push(value.copied(alloc)?)?;
-    Ok(())
 }

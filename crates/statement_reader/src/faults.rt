@@ -1,27 +1,10 @@
+//! Why no script was read.
 ghost use Rattle.std.specs.Prelude.{◌≡◌};
 ghost use Rattle.statement_reader.specs.declared.faults.ReadFault.TheVariants as faults;
 
 use sql_base::NoMemory;
+use statement_draft::Reason;
 use thiserror::Error;
-
-/// Why bytes are no script.
-#[derive(Clone, Copy, Debug, PartialEq, Eq)]
-pub enum Reason {
-    TooLarge,
-    BadByte,
-    OpenText,
-    NumberTooWide,
-    TextTooLong,
-    Unexpected,
-    UnknownName,
-    Repeated,
-    WrongType,
-    OverLimit,
-    NotRising,
-    CheckFails,
-    /// A script that may be one, and isn't read yet.
-    NotYet,
-}
 
 /// The place at which bytes are no script. Lines count from 1 and end at LF, columns count bytes from 1.
 #[derive(Clone, Copy, Debug, PartialEq, Eq)]

@@ -1,25 +1,10 @@
-//! Reads a script from its bytes.
-//!
-//! So far a script is read where it is thin: at most the limit QUANTUM, one table of two INT columns whose first is the
-//! key, its LOAD or none, and one session with one scan of the table. All other bytes are refused.
+//! Reads a script from its bytes: the one that they spell, or the first fault with its line and column.
 #![tactic(auto)]
 
 mod faults;
-mod fixed_words;
-mod limits;
-mod loads;
-mod machine;
-mod meaning;
-mod places;
 mod positions;
-mod raw;
-mod reader;
-mod rules;
-mod selects;
-mod tables;
+mod reading;
 
-pub use faults::{ReadFault, Reason, ScriptFault};
-pub use reader::{one_script, read_script};
-
-#[cfg(test)]
-mod tests;
+pub use faults::{ReadFault, ScriptFault};
+pub use reading::{one_script, read_script};
+pub use statement_draft::{Checks, Reason};

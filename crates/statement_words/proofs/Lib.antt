@@ -1,4 +1,5 @@
 pub mod Decimal
+pub mod Formed
 pub mod Pieces
 pub mod Spelled
 pub mod Standing

@@ -11,6 +11,7 @@ use Rattle.std.proofs.lemmas.List.Folds.{length-prefix_len}
 use Rattle.std.proofs.lemmas.Grind.{flat_map-append}
 use Rattle.std.proofs.lemmas.Bool.Decides.{nat_tests}
 use Rattle.std.proofs.Math.Seq.{take-append_seam}
+use Rattle.sql_base.specs.Names.{is_name_byte}
 use Rattle.statement_words.specs.declared.keywords.Keyword.{Keyword}
 use Rattle.statement_words.specs.declared.tokens.Sign.{Sign}
 use Rattle.statement_words.specs.declared.tokens.Sign.TheVariants.{Open, Close, Comma, Semicolon, Plus, Minus, Times, Over, Equal, Unequal, Less, AtMost, Greater, AtLeast}
@@ -19,7 +20,7 @@ use Rattle.statement_words.specs.declared.faults.WordReason.TheVariants.{TextToo
 use Rattle.statement_words.specs.Keywords.{spelling, keywords, keyword_of}
 use Rattle.statement_words.specs.Reading.{Place, fails, ◌>>=◌}
 use Rattle.statement_words.specs.Spans.{IsWritten, sign_spelling, quoted}
-use Rattle.statement_words.specs.Words.{Piece, is_name_byte, keyword_or_name, name_at, decimal, number_at, Inside, TextState, TextStep, text_step, text_from, text_goes, text_ends, text_at, sign, less_at, greater_at, sign_at, word_at}
+use Rattle.statement_words.specs.Words.{Piece, keyword_or_name, name_at, decimal, number_at, Inside, TextState, TextStep, text_step, text_from, text_goes, text_ends, text_at, sign, less_at, greater_at, sign_at, word_at}
 
 -- a word on the first bytes, one at least
 pub record IsPiece (bytes : List ℕ) (x : Piece) : Type 0 where

@@ -1,7 +1,9 @@
 -- Where the words of a script stand, and how each is written.
-use Rattle.std.specs.Prelude.{◌≡◌, ◌≤◌, ◌<◌, ℕ, List, [], ◌∷◌, ◌++◌, flat_map, slice_range, codes, if◌then◌else◌, ◌==◌}
+use Rattle.std.specs.Prelude.{◌≡◌, ◌≤◌, ◌<◌, ℕ, ◌^◌, List, [], ◌∷◌, ◌++◌, length, flat_map, slice_range, codes, true, if◌then◌else◌, ◌==◌}
 use Rattle.std.specs.List.{AllPass}
 use Rattle.std.specs.Char.{is_ascii_digit}
+use Rattle.sql_base.specs.Names.{IsName}
+use Rattle.sql_base.specs.Rows.{is_printable}
 use Rattle.statement_words.specs.declared.tokens.Sign.{Sign}
 use Rattle.statement_words.specs.declared.tokens.Sign.TheVariants as sign
 use Rattle.statement_words.specs.declared.tokens.Token.{Token}
@@ -38,6 +40,17 @@ IsWritten (word.Name name) bytes = bytes ≡ name
 IsWritten (word.Number n) bytes = AllPass is_ascii_digit bytes × (n ≡ decimal bytes)
 IsWritten (word.Text text) bytes = bytes ≡ 39 ∷ (flat_map quoted text ++ 39 ∷ [])
 IsWritten (word.Sign s) bytes = bytes ≡ sign_spelling s
+
+-- a word in its form: a name that may name something, a number of at most 2 ^ 63, a printable text of at most 255 bytes
+abbrev pub IsFormedWord : Word → Type 0
+IsFormedWord (word.Keyword k) = Unit {0}
+IsFormedWord (word.Name name) = IsName name
+IsFormedWord (word.Number n) = n ≤ 2 ^ 63
+IsFormedWord (word.Text text) = (length text ≤ 255) × (is_printable text ≡ true)
+IsFormedWord (word.Sign s) = Unit {0}
+
+abbrev pub IsFormed : Token → Type 0
+IsFormed t = IsFormedWord t.word
 
 -- a token on bytes of the text that are a way to write its word
 abbrev pub StandsOn : List ℕ → Token → Type 0

@@ -1,7 +1,8 @@
 -- The words of a script, from its bytes.
 use Rattle.std.specs.Prelude.{ℕ, ◌+◌, ◌-◌, ◌*◌, ◌^◌, ◌||◌, ◌&&◌, ◌==◌, nat_lt, nat_le, List, [], ◌∷◌, ◌++◌, length, take, Bool, true, false, Option, Some, None, Result, Ok, if◌then◌else◌}
 use Rattle.std.specs.List.{prefix_len}
-use Rattle.std.specs.Char.{is_ascii_digit, is_ascii_alphanumeric, is_ascii_alphabetic}
+use Rattle.std.specs.Char.{is_ascii_digit, is_ascii_alphabetic}
+use Rattle.sql_base.specs.Names.{is_name_byte}
 use Rattle.statement_words.specs.declared.faults.WordReason.TheVariants.{BadByte, OpenText, NumberTooWide, TextTooLong}
 use Rattle.statement_words.specs.declared.keywords.Keyword.{Keyword}
 use Rattle.statement_words.specs.declared.tokens.Word.{Word}
@@ -20,10 +21,6 @@ pub record Piece : Type 0 where
 -- blank, tab, LF and CR
 abbrev pub is_separator : ℕ → Bool
 is_separator b = b == 32 || b == 9 || b == 10 || b == 13
-
--- letters, digits and `_`
-abbrev pub is_name_byte : ℕ → Bool
-is_name_byte b = is_ascii_alphanumeric b || b == 95
 
 -- a name that is a keyword is that keyword
 abbrev pub keyword_or_name : Option Keyword → List ℕ → Word

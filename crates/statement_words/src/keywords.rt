@@ -1,4 +1,5 @@
-ghost use Rattle.std.specs.Prelude.{◌≡◌};
+ghost use Rattle.std.specs.Prelude.{◌≡◌, is_some};
+ghost use Rattle.sql_base.specs.Names.{is_keyword};
 ghost use Rattle.statement_words.specs.declared.keywords.Keyword as keyword;
 ghost use Rattle.std.specs.List.{find};
 ghost use Rattle.std.specs.Str.{bytes_eq};
@@ -154,6 +155,8 @@ fn written_as(bytes: &[u8], keywords: &[Keyword]) -> Option<Keyword>
 #[tactic(auto, unfolding(crate::specs::Keywords::keyword_of))]
 pub fn keyword_of(bytes: &[u8]) -> Option<Keyword>
     ensures same { result ≡ keyword_of bytes.now }
+    // Only the words of the language are written so, and each of them is.
+    ensures known { is_some result ≡ is_keyword bytes.now }
     ensures found { (k : keyword.Keyword) → bytes.now ≡ spelling k → result ≡ Some k }
 {
     written_as(bytes, &KEYWORDS)

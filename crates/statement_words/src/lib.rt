@@ -14,6 +14,3 @@ pub use faults::{WordFault, WordReason};
 pub use keywords::{Keyword, keyword_of, spelling};
 pub use scan::{SCRIPT_LIMIT, words};
 pub use tokens::{Sign, Token, Word};
-
-#[cfg(test)]
-mod tests;

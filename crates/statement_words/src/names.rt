@@ -1,7 +1,8 @@
 ghost use Rattle.std.specs.Prelude.{◌≡◌, ◌<◌, ◌≤◌, ◌^◌, length, IfOk};
 ghost use Rattle.std.specs.List.{prefix_len};
 ghost use Rattle.statement_words.specs.Reading.{Gives};
-ghost use Rattle.statement_words.specs.Words.{is_name_byte, name_at};
+ghost use Rattle.sql_base.specs.Names.{is_name_byte};
+ghost use Rattle.statement_words.specs.Words.{name_at};
 
 use crate::faults::WordFault;
 use crate::keywords::keyword_of;

@@ -1,7 +1,8 @@
 ghost use Rattle.std.specs.Prelude.{◌≡◌, ◌+◌, ◌<◌, ◌≤◌, ◌^◌, length, drop, IfOk};
+ghost use Rattle.std.specs.List.{AllByRecursion};
 ghost use Rattle.statement_words.specs.Reading.{Gives};
-ghost use Rattle.statement_words.specs.Spans.{Stand};
-ghost use Rattle.statement_words.specs.Words.{is_separator, word_at, words_step, words_of};
+ghost use Rattle.statement_words.specs.Spans.{IsFormed, Stand};
+ghost use Rattle.statement_words.specs.Words.{is_separator, word_at, fresh, words_of};
 
 use crate::faults::{WordFault, WordReason};
 use crate::names::name_at;
@@ -47,22 +48,19 @@ fn word_at(alloc: Global, at: u32, bytes: &[u8]) -> Result<(Word, u32), WordFaul
     }
 }
 
-/// What the byte at `at` adds to the tokens; the result says how many of the next bytes belong to the last of them.
-fn words_step(
+/// Takes the separator or the word at `at`. The result says how many bytes stand behind its first one.
+fn take_piece(
     alloc: Global,
     tokens: &mut List<Token>,
-    skip: u32,
     at: u32,
     text: &[u8],
 ) -> Result<u32, WordFault>
     requires short { length text.now < 2 ^ 31 }
     requires within { at < length text.now }
-    ensures { Gives (λ x. record { tokens = tokens.new; skip = x }) result
-        (words_step at (record { tokens = tokens.old; skip = skip }) (drop at text.now)) }
+    ensures within { IfOk result (λ skip. at + skip < length text.now) }
+    ensures same { Gives (λ skip. record { tokens = tokens.new; skip = skip }) result
+        (fresh at tokens.old (drop at text.now)) }
 {
-    if skip > 0 {
-        return Ok(skip - 1);
-    }
     if is_separator(text[at as usize]) {
         return Ok(0);
     }
@@ -75,16 +73,17 @@ fn words_step(
     Ok(len.saturating_sub(1))
 }
 
-/// The tokens of the bytes, or their first fault.
+/// The tokens of the bytes, or their first fault. No byte inside a token is visited again.
 #[tactic(auto, unfolding(crate::specs::Words::words_from))]
 fn tokens_of(alloc: Global, text: &[u8]) -> Result<List<Token>, WordFault>
     requires { length text.now < 2 ^ 31 }
     ensures { Gives (λ x. x) result (words_of text.now) }
 {
     let mut tokens = List::new(alloc);
-    let mut skip = 0;
-    for (at, _) in text.iter().enumerate() {
-        skip = words_step(alloc, &mut tokens, skip, at as u32, text)?;
+    let mut at = 0;
+    while at < text.len() {
+        let skip = take_piece(alloc, &mut tokens, at as u32, text)?;
+        at += 1 + skip as usize;
     }
     Ok(tokens)
 }
@@ -96,6 +95,8 @@ pub fn words(alloc: Global, text: &[u8]) -> Result<List<Token>, WordFault>
     ensures same { Gives (λ x. x) result (words_of text.now) }
     // Each stands on bytes that are a way to write it, one behind the other.
     ensures stand { IfOk result (λ tokens. Stand text.now 0 tokens (length text.now)) }
+    // Each is in its form: what a name, a number and a text may be.
+    ensures formed { IfOk result (AllByRecursion IsFormed) }
 {
     tokens_of(alloc, text)
 }

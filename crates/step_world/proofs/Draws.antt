@@ -8,15 +8,15 @@ use Rattle.partition_core.specs.Kept.{Kept}
 use Rattle.requester_fs.proofs.Lists.{Leads-append}
 use Rattle.requester_fs.specs.Leading.{Leads, Does, next_of, place_behind}
 use Rattle.requester_fs.specs.Places.{first_place, task_in, task_at, after_in, moved}
-use Rattle.requester_fs.specs.Sessions.{Draws, Working, IsSessionOf, entries_kept}
+use Rattle.session_grammar.specs.Sessions.{Draws, Working, IsSessionOf, entries_kept}
 use Rattle.requester_fs.specs.Thin.{IsThin}
-use Rattle.requester_fs.specs.declared.logs.Answer.TheVariants.{Stamp}
-use Rattle.requester_fs.specs.declared.logs.LogEntry.{LogEntry}
-use Rattle.requester_fs.specs.declared.logs.LogEntry.TheVariants.{Drew}
+use Rattle.session_grammar.specs.declared.logs.Answer.TheVariants.{Stamp}
+use Rattle.session_grammar.specs.declared.logs.LogEntry.{LogEntry}
+use Rattle.session_grammar.specs.declared.logs.LogEntry.TheVariants.{Drew}
 use Rattle.requester_fs.specs.declared.places.Place.{Place}
 use Rattle.requester_fs.specs.declared.places.Stage.{Stage}
 use Rattle.requester_fs.specs.declared.places.Stage.TheVariants.{Beginning, Continuing, Preparing, Drawing, Committing, Undoing, Finished}
-use Rattle.run_record.specs.WholeScan.{scan_opening, first_attempt, first_drawn, drew_first}
+use Rattle.step_world.specs.WholeScan.{scan_opening, first_attempt, first_drawn, drew_first}
 use Rattle.step_world.specs.Running.{HasPrepared, HasDrawn, Stands, Running, actions_left, last_stamp}
 use Rattle.step_world.proofs.Moves.{stands_drawn}
 use Rattle.step_world.proofs.Sends.{next_is}

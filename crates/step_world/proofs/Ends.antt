@@ -1,28 +1,31 @@
 -- A run whose session has finished kept the record of a whole scan.
-use Rattle.std.proofs.Common.{◌≡◌, ℕ, List, [], ◌∷◌, Ok, Err, IfOk, Result, refl, ap, sym, ◌∙◌, subst}
+use Rattle.std.proofs.Common.{◌≡◌, ℕ, List, [], ◌∷◌, ◌++◌, map, Ok, Err, IfOk, Result, refl, ap, sym, ◌∙◌, subst}
 use Rattle.std.specs.List.{AllByRecursion}
 use Rattle.sql_base.specs.declared.faults.NoMemory.{NoMemory}
 use Rattle.sql_base.specs.declared.scripts.Script.{Script}
 use Rattle.commit_journal.specs.declared.Drawn.{Drawn}
-use Rattle.partition_core.specs.History.{IsLegal, before}
+use Rattle.partition_state.specs.History.{IsLegal, before}
 use Rattle.partition_core.specs.Kept.{Kept}
-use Rattle.requester_fs.specs.Follows.{in_line}
+use Rattle.session_grammar.specs.Follows.{in_line}
 use Rattle.requester_fs.specs.Leading.{next_of}
 use Rattle.requester_fs.specs.Places.{task_in}
-use Rattle.requester_fs.specs.Sessions.{Ends, Working}
+use Rattle.session_grammar.specs.Sessions.{Ends, Working}
 use Rattle.requester_fs.specs.declared.places.Stage.{Stage}
 use Rattle.requester_fs.specs.declared.places.Stage.TheVariants.{Finished}
-use Rattle.one_thread.specs.Answer.{answer_text}
 use Rattle.one_thread.specs.One.{loaded}
 use Rattle.one_thread.specs.Text.{run_text}
-use Rattle.run_record.proofs.ThinLegal.{legal-whole}
-use Rattle.run_record.proofs.ThinReading.{only_session}
-use Rattle.run_record.proofs.ThinSerial.{serial-thin}
-use Rattle.run_record.proofs.ThinWhole.{tiles-thin, text-thin, is_text-thin}
+use Rattle.step_world.proofs.ThinLegal.{legal-whole}
+use Rattle.step_world.proofs.ThinReading.{only_session}
+use Rattle.step_world.proofs.ThinWhole.{text-thin, is_text-thin}
 use Rattle.run_record.specs.Headline.{Headline}
+use Rattle.run_record.specs.Text.{IsText}
+use Rattle.serial_laws.proofs.Finished.{finished_tile}
+use Rattle.serial_passes.proofs.Serially.{legal_is_serial}
+use Rattle.session_grammar.specs.declared.logs.LogEntry.{LogEntry}
+use Rattle.partition_state.specs.declared.entries.Entry.{Entry}
 use Rattle.run_record.specs.Openings.{log_of}
-use Rattle.run_record.specs.ThinText.{thin_shown}
-use Rattle.run_record.specs.WholeScan.{WholeScan, scan_opening}
+use Rattle.step_world.specs.ThinText.{thin_shown}
+use Rattle.step_world.specs.WholeScan.{LosesNothing, WholeScan, asked, scan_opening}
 use Rattle.run_record.specs.declared.records.RunRecord.{RunRecord}
 use Rattle.step_world.specs.Running.{Running, Stands}
 use Rattle.step_world.proofs.Sends.{next_is}
@@ -70,16 +73,29 @@ pub headline : (script : Script) (s : Working) (k : Kept) (journal : List Drawn)
 headline script s k journal run ends =
     let whole = ends_whole script s k journal run ends in
     let kept = kept_of s k journal in
+    let legal = legal-whole script run.table kept run.run whole in
     record {
-      legal = legal-whole script run.table kept run.run whole;
-      tiles = tiles-thin script run.table kept run.run whole;
+      legal = legal;
+      tiles = finished_tile script kept legal;
       in_line_is = λ session lies. subst (λ n. in_line script n (log_of kept n)) (sym (only_session script run.run.thin session lies)) (run.session.ends_where_whole.0 ends);
-      text = is_text-thin script run.table kept run.run whole run.suits.rise;
-      serial = serial-thin script run.table kept run.run whole run.suits.rise;
+      serial = legal_is_serial script kept legal;
+      alone = λ one heard. is_text-thin script run.table kept run.run whole run.suits.rise;
     }
 
--- and what is printed of it is what one thread prints
+-- what is printed of it is its text
 pub printed : (script : Script) (s : Working) (k : Kept) (journal : List Drawn) → Running script s k journal → s.next ≡ Ends
-    → run_text script.tables (thin_shown script (kept_of s k journal)) (loaded script).records ≡ answer_text script
+    → IsText script (kept_of s k journal) (run_text script.tables (thin_shown script (kept_of s k journal)) (loaded script).records)
 printed script s k journal run ends =
-    text-thin script run.table (kept_of s k journal) run.run (ends_whole script s k journal run ends) run.suits.rise
+    let whole = ends_whole script s k journal run ends in
+    let kept = kept_of s k journal in
+    subst (IsText script kept) (sym (text-thin script run.table kept run.run whole run.suits.rise)) (is_text-thin script run.table kept run.run whole run.suits.rise)
+
+-- and nothing was lost
+asked_unlost : (es : List Entry) (more : List LogEntry) → AllByRecursion LosesNothing more → AllByRecursion LosesNothing (map asked es ++ more)
+asked_unlost [] more h = h
+asked_unlost (e ∷ es) more h = (refl, asked_unlost es more h)
+
+pub unlost : (script : Script) (s : Working) (k : Kept) (journal : List Drawn) → Running script s k journal → s.next ≡ Ends → AllByRecursion (λ log. AllByRecursion LosesNothing log) (s.log ∷ [])
+unlost script s k journal run ends =
+    let whole = ends_whole script s k journal run ends in
+    subst (λ (logs : List (List LogEntry)). AllByRecursion (λ log. AllByRecursion LosesNothing log) logs) (sym whole.logs) (asked_unlost whole.scan _ (refl, (tt, (refl, tt))), tt)

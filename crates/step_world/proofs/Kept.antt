@@ -2,7 +2,7 @@
 use Rattle.std.proofs.Common.{◌≡◌, Some, Ok, Err, IfOk, Result, ◌∙◌}
 use Rattle.sql_base.specs.declared.faults.NoMemory.{NoMemory}
 use Rattle.dp_messages.specs.declared.replies.Reply.{Reply}
-use Rattle.partition_core.specs.State.{Opener}
+use Rattle.partition_state.specs.State.{Opener}
 
 -- what is kept of an opener is one reply
 pub kept_one : (o : Opener) (reply r : Reply) → o.kept ≡ Some reply → o.kept ≡ Some r → reply ≡ r

@@ -7,13 +7,13 @@ use Rattle.dp_messages.specs.declared.replies.Reply.{Reply as PartitionReply}
 use Rattle.dp_messages.specs.declared.replies.Reply.TheVariants as reply
 use Rattle.partition_core.proofs.Alone.{ReadOn-push}
 use Rattle.partition_core.specs.Alone.{Phase, Fresh, Partway, Whole, Shows, AsksOn}
-use Rattle.partition_core.specs.State.{State}
-use Rattle.partition_core.specs.declared.entries.Entry.{Entry}
+use Rattle.partition_state.specs.State.{State}
+use Rattle.partition_state.specs.declared.entries.Entry.{Entry}
 use Rattle.requester_fs.specs.Places.{after_reply}
-use Rattle.requester_fs.specs.Rows.{fits_subset}
-use Rattle.requester_fs.specs.declared.logs.LogEntry.{LogEntry}
+use Rattle.session_grammar.specs.Rows.{fits_subset}
+use Rattle.session_grammar.specs.declared.logs.LogEntry.{LogEntry}
 use Rattle.requester_fs.specs.declared.places.Place.{Place}
-use Rattle.run_record.specs.WholeScan.{scan_reader, asked, first_drawn, drew_first}
+use Rattle.step_world.specs.WholeScan.{scan_reader, asked, first_drawn, drew_first}
 use Rattle.step_world.specs.Running.{IsPrepare, IsCommit, HasRead, HasPrepared, HasDrawn, HasCommitted, Stands}
 
 -- the log has one more entry of the history

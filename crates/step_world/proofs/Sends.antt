@@ -12,29 +12,30 @@ use Rattle.dp_messages.specs.declared.requests.Ask.{Ask}
 use Rattle.dp_messages.specs.declared.requests.Ask.TheVariants.{Continue, Prepare, EndCommit, EndUndo}
 use Rattle.dp_messages.specs.declared.requests.Request.{Request}
 use Rattle.partition_core.proofs.Alone.{begun, continued, prepared, committed, still-push}
-use Rattle.partition_core.proofs.Replays.{replay-push, IsReplayed-served}
+use Rattle.partition_state.proofs.Replays.{replay-push}
+use Rattle.partition_core.proofs.Replays.{IsReplayed-served}
 use Rattle.partition_core.specs.Alone.{Phase, Fresh, Partway, Whole, Ready, Over, ReadBy, Suits, Shows, AsksOn, by_reader, cells_from}
-use Rattle.partition_core.specs.History.{replay}
+use Rattle.partition_state.specs.History.{replay}
 use Rattle.partition_core.specs.Kept.{Kept, IsServed, served, entry_of, opener_in}
-use Rattle.partition_core.specs.State.{State}
-use Rattle.partition_core.specs.Step.{step}
-use Rattle.partition_core.specs.declared.entries.Entry.{Entry}
+use Rattle.partition_state.specs.State.{State}
+use Rattle.partition_state.specs.Step.{step}
+use Rattle.partition_state.specs.declared.entries.Entry.{Entry}
 use Rattle.requester_fs.proofs.Complete.{place}
 use Rattle.requester_fs.proofs.Lists.{Leads-append}
 use Rattle.requester_fs.proofs.Nexts.{next_at}
 use Rattle.requester_fs.specs.Leading.{Leads, Does, next_of}
 use Rattle.requester_fs.specs.Places.{first_place, task_in, task_at, after, after_reply, after_prepare, begin}
-use Rattle.requester_fs.specs.Rows.{IsSent, fits, fits_subset}
-use Rattle.requester_fs.specs.Sessions.{Sends, Working, IsSessionOf, MayCome, entries_kept}
+use Rattle.session_grammar.specs.Rows.{IsSent, fits, fits_subset}
+use Rattle.session_grammar.specs.Sessions.{Sends, Working, IsSessionOf, MayCome, entries_kept}
 use Rattle.requester_fs.specs.Thin.{IsThin}
-use Rattle.requester_fs.specs.declared.logs.Answer.TheVariants.{Reply}
-use Rattle.requester_fs.specs.declared.logs.LogEntry.{LogEntry}
+use Rattle.session_grammar.specs.declared.logs.Answer.TheVariants.{Reply}
+use Rattle.session_grammar.specs.declared.logs.LogEntry.{LogEntry}
 use Rattle.requester_fs.specs.declared.places.Place.{Place}
 use Rattle.requester_fs.specs.declared.places.Task.{Task}
 use Rattle.requester_fs.specs.declared.places.Task.TheVariants.{Send, Commit, Nothing}
 use Rattle.requester_fs.specs.declared.places.Stage.{Stage}
 use Rattle.requester_fs.specs.declared.places.Stage.TheVariants.{Beginning, Continuing, Preparing, Drawing, Committing, Undoing, Finished}
-use Rattle.run_record.specs.WholeScan.{scan_reader, scan_opening, asked}
+use Rattle.step_world.specs.WholeScan.{scan_reader, scan_opening, asked}
 use Rattle.step_world.specs.Running.{IsPrepare, IsCommit, HasRead, HasDrawn, Stands, Running, actions_left, asks_left}
 use Rattle.step_world.proofs.Moves.{read_more, shows_fits, stands_read, stands_prepared, stands_committed}
 use Rattle.step_world.proofs.Syncs.{next_sync}

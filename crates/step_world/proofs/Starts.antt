@@ -14,16 +14,16 @@ use Rattle.sql_base.specs.declared.values.Value.TheVariants as value
 use Rattle.key_sequenced.specs.declared.Cell.{Cell}
 use Rattle.partition_core.proofs.Alone.{opened-read}
 use Rattle.partition_core.specs.Alone.{Fresh, Suits, FitsBuffer}
-use Rattle.partition_core.specs.History.{before}
+use Rattle.partition_state.specs.History.{before}
 use Rattle.partition_core.specs.Kept.{Kept, opened_with}
-use Rattle.partition_core.specs.State.{State, new_cell}
-use Rattle.partition_core.specs.Step.{is_shaped}
+use Rattle.partition_state.specs.State.{State, new_cell}
+use Rattle.partition_state.specs.Step.{is_shaped}
 use Rattle.requester_fs.specs.Leading.{Leads}
 use Rattle.requester_fs.specs.Places.{first_place}
-use Rattle.requester_fs.specs.Sessions.{Working, IsSessionOf}
+use Rattle.session_grammar.specs.Sessions.{Working, IsSessionOf}
 use Rattle.requester_fs.specs.Thin.{IsThinTable}
-use Rattle.run_record.proofs.ThinOpenings.{scanned_records, thin_table}
-use Rattle.run_record.specs.WholeScan.{IsRun, scan_reader, scan_opening, scanned_rows}
+use Rattle.step_world.proofs.ThinOpenings.{scanned_records, thin_table}
+use Rattle.step_world.specs.WholeScan.{IsRun, scan_reader, scan_opening, scanned_rows}
 use Rattle.step_world.specs.Running.{Running, Opens}
 
 and_right : (a b : Bool) → (a && b) ≡ true → b ≡ true

@@ -3,13 +3,13 @@ use Rattle.std.proofs.Common.{◌≡◌, ℕ, ◌+◌, List, [], ◌∷◌, ◌+
 use Rattle.std.proofs.lemmas.List.{append-nil}
 use Rattle.commit_journal.specs.declared.Drawn.{Drawn}
 use Rattle.partition_core.specs.Alone.{Phase}
-use Rattle.partition_core.specs.State.{State}
-use Rattle.partition_core.specs.declared.entries.Entry.{Entry}
-use Rattle.requester_fs.specs.Leading.{sync_behind}
-use Rattle.requester_fs.specs.declared.logs.LogEntry.{LogEntry}
+use Rattle.partition_state.specs.State.{State}
+use Rattle.partition_state.specs.declared.entries.Entry.{Entry}
+use Rattle.session_grammar.specs.Sessions.{sync_behind}
+use Rattle.session_grammar.specs.declared.logs.LogEntry.{LogEntry}
 use Rattle.requester_fs.specs.declared.places.Stage.{Stage}
 use Rattle.requester_fs.specs.declared.places.Stage.TheVariants.{Beginning, Continuing, Preparing, Drawing, Committing, Undoing, Finished}
-use Rattle.run_record.specs.WholeScan.{asked}
+use Rattle.step_world.specs.WholeScan.{asked}
 use Rattle.step_world.specs.Running.{Stands}
 
 sync_behind-asked : (n : ℕ) (es : List Entry) (log : List LogEntry) → sync_behind n (map asked es ++ log) ≡ sync_behind (n + length es) log

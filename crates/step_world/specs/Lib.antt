@@ -1,1 +1,3 @@
+pub mod WholeScan
+pub mod ThinText
 pub mod Running

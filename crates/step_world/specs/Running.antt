@@ -10,18 +10,18 @@ use Rattle.dp_messages.specs.declared.requests.Ask.{Ask}
 use Rattle.dp_messages.specs.declared.requests.Ask.TheVariants.{BeginRead, Continue, Prepare, EndCommit}
 use Rattle.key_sequenced.specs.declared.Cell.{Cell}
 use Rattle.partition_core.specs.Alone.{Phase, Fresh, Partway, Whole, Ready, Over, ReadBy, Suits, ReadOn, by_reader, cells_from}
-use Rattle.partition_core.specs.History.{before}
+use Rattle.partition_state.specs.History.{before}
 use Rattle.partition_core.specs.Kept.{Kept, IsReplayed, opened_with}
-use Rattle.partition_core.specs.State.{State}
-use Rattle.partition_core.specs.declared.entries.Entry.{Entry}
+use Rattle.partition_state.specs.State.{State}
+use Rattle.partition_state.specs.declared.entries.Entry.{Entry}
 use Rattle.requester_fs.specs.Leading.{Leads}
 use Rattle.requester_fs.specs.Places.{first_place}
-use Rattle.requester_fs.specs.Sessions.{Next, Sends, Draws, Ends, Working, IsSessionOf}
-use Rattle.requester_fs.specs.declared.logs.LogEntry.{LogEntry}
+use Rattle.session_grammar.specs.Sessions.{Next, Sends, Draws, Ends, Working, IsSessionOf}
+use Rattle.session_grammar.specs.declared.logs.LogEntry.{LogEntry}
 use Rattle.requester_fs.specs.declared.places.Place.{Place}
 use Rattle.requester_fs.specs.declared.places.Stage.{Stage}
 use Rattle.requester_fs.specs.declared.places.Stage.TheVariants.{Beginning, Continuing, Preparing, Drawing, Committing, Undoing, Finished}
-use Rattle.run_record.specs.WholeScan.{IsRun, scan_reader, scan_opening, asked, first_drawn, drew_first, whole_history, whole_log}
+use Rattle.step_world.specs.WholeScan.{IsRun, scan_reader, scan_opening, asked, first_drawn, drew_first, whole_history, whole_log}
 
 -- the entry of the Prepare, and that of the EndCommit with the first stamp
 pub record IsPrepare (e : Entry) : Type 0 where

@@ -1,14 +1,15 @@
 //! One action of a session, with what the partition or the journal does at once.
 ghost use Rattle.std.specs.Prelude.{◌≡◌, ◌<◌, ◌+◌, ◌^◌, ◌++◌, ◌∷◌, [], max, length, true, false, Ok, IfOk, OnOk};
 ghost use Rattle.partition_core.specs.Kept.{IsServed, entry_of, opener_in, served};
-ghost use Rattle.requester_fs.specs.Sessions.{Ends};
+ghost use Rattle.session_grammar.specs.Sessions.{Ends};
 ghost use Rattle.sql_base.specs.declared.scripts.Script.{Script as AnyScript};
 ghost use Rattle.step_world.specs.Running.{Running, actions_left, last_stamp};
 
 use commit_journal::Drawn;
 use dp_messages::{Reply, Request};
 use partition_core::{Partition, Pick, Served};
-use requester_fs::{Action, Answer, Session};
+use requester_fs::Session;
+use session_grammar::{Action, Answer};
 use sql_base::{List, NoMemory, TxnName};
 use std::alloc::Global;
 
@@ -80,8 +81,14 @@ fn ask(
         Served::Old => unreachable!(),
     }
     match partition.pickup(1, sync) {
-        Pick::Reply(reply) => reply.copied(alloc),
+        Pick::Reply(reply) => copy_of(reply),
         Pick::Pending => unreachable!(),
         Pick::Passed => unreachable!(),
     }
+}
+
+fn copy_of(reply: &Reply) -> Result<Reply, NoMemory>
+    ensures { IfOk result (λ copy. copy ≡ reply.now) }
+{
+    Ok(reply.clone()?)
 }

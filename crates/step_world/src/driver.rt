@@ -1,11 +1,12 @@
 //! The run of a script with one session and one partition.
 ghost use Rattle.std.specs.Prelude.{◌≡◌, ◌∷◌, [], IfOk};
-ghost use Rattle.one_thread.specs.Answer.{answer_text};
+ghost use Rattle.std.specs.List.{AllByRecursion};
+ghost use Rattle.run_record.specs.Text.{IsText};
 ghost use Rattle.one_thread.specs.One.{loaded};
 ghost use Rattle.one_thread.specs.Text.{run_text};
 ghost use Rattle.run_record.specs.Headline.{Headline};
-ghost use Rattle.run_record.specs.ThinText.{thin_shown};
-ghost use Rattle.run_record.specs.WholeScan.{IsRun};
+ghost use Rattle.step_world.specs.ThinText.{thin_shown};
+ghost use Rattle.step_world.specs.WholeScan.{IsRun, LosesNothing};
 ghost use Rattle.step_world.specs.Running.{Opens};
 
 use crate::actions::step;
@@ -21,7 +22,9 @@ use std::alloc::Global;
 pub fn drive(alloc: Global, script: &Script) -> Result<RunRecord, NoMemory>
     requires { IsRun script.now }
     ensures headline { IfOk result (Headline script.now) }
-    ensures printed { IfOk result (λ kept. run_text script.now.tables (thin_shown script.now kept) (loaded script.now).records ≡ answer_text script.now) }
+    ensures printed { IfOk result (λ kept. IsText script.now kept (run_text script.now.tables (thin_shown script.now kept) (loaded script.now).records)) }
+    ensures unscheduled { IfOk result (λ kept. kept.acts ≡ []) }
+    ensures unlost { IfOk result (λ kept. AllByRecursion (λ log. AllByRecursion LosesNothing log) kept.logs) }
 {
     let mut partition = open(alloc, script)?;
     let mut session = Session::new(alloc, script, 1)?;

@@ -88,6 +88,3 @@ pub fn close_of<W: Drop>(blocks: &mut Vec<Numbered<W>>, holder: TxnName)
 {
     blocks.retain(|b| b.block.holder != holder);
 }
-
-#[cfg(test)]
-mod tests;

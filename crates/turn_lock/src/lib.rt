@@ -18,6 +18,3 @@ pub use lock::{Busy, TurnLock};
 pub use make::NoMemory;
 pub use pass::Pass;
 pub use stands_for::StandsFor;
-
-#[cfg(test)]
-mod tests;

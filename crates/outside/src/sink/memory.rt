@@ -1,3 +1,5 @@
+//! A sink in memory.
+
 ghost use Rattle.std.specs.Prelude.{◌≡◌, ◌≢◌, ◌≤◌, ◌-◌, ◌↔◌, ◌⊎◌, [], ◌++◌, length, take, min, IsErr, IfOk, OnOk, OnErr, Some};
 ghost use Rattle.outside.specs.Calls.{FailsNext, no_call, succeeded, failed};
 

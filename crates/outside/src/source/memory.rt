@@ -1,3 +1,5 @@
+//! A source in memory.
+
 ghost use Rattle.std.specs.Prelude.{◌≡◌, ◌≤◌, ◌↔◌, length, take, drop, min, IsErr, IfOk, OnOk, OnErr, Some};
 ghost use Rattle.outside.specs.Calls.{FailsNext, no_call, succeeded, failed};
 

@@ -1,7 +1,7 @@
 use Rattle.std.proofs.Common.{ap, sym, ◌∙◌, None}
 use Rattle.std.specs.Prelude.{option_and_then}
 use Rattle.sql_base.specs.Locks.{same_txn}
-use Rattle.partition_core.specs.declared.lives.Live.{Live}
+use Rattle.partition_state.specs.declared.lives.Live.{Live}
 use Rattle.partition_core.proofs.Finding.{find_here}
 use Rattle.partition_core.proofs.lives.floor_of.Goals as goal
 

@@ -1,7 +1,7 @@
 use Rattle.std.proofs.Common.{◌≡◌, sym, None, get_or, true, arith, not, ◌&&◌}
 use Rattle.std.specs.Prelude.{◌==◌}
 use Rattle.std.proofs.lemmas.Bool.Decides.{nat_tests}
-use Rattle.partition_core.specs.declared.lives.Live.{Live}
+use Rattle.partition_state.specs.declared.lives.Live.{Live}
 use Rattle.partition_core.proofs.Finding.{find_here}
 use Rattle.partition_core.proofs.lives.other_live.Goals as goal
 

@@ -1,7 +1,7 @@
 use Rattle.std.proofs.Common.{arith}
 use Rattle.std.proofs.lemmas.Grind.{common_steps}
 use Rattle.std.proofs.lemmas.List.Edits.{map_over_more}
-use Rattle.partition_core.specs.Step.{prepared}
+use Rattle.partition_state.specs.Step.{prepared}
 use Rattle.partition_core.proofs.lives.set_floor.Goals as goal
 
 pub loop-live-preserved : goal.loop-live-preserved

@@ -1,5 +1,5 @@
 use Rattle.std.proofs.Common.{◌≡◌, ◌++◌, map, take, drop}
-use Rattle.partition_core.specs.Step.{prepared}
+use Rattle.partition_state.specs.Step.{prepared}
 use Rattle.partition_core.proofs.lives.set_floor.Given as goal
 
 -- those before have their floor

@@ -1,5 +1,5 @@
 use Rattle.std.proofs.Common.{◌≡◌, map, take}
-use Rattle.partition_core.specs.State.{new_cell}
+use Rattle.partition_state.specs.State.{new_cell}
 use Rattle.partition_core.proofs.openings.new_cells.Given as goal
 
 abbrev pub invariant-loop-row : goal.invariant-loop-row

@@ -4,4 +4,4 @@ use Rattle.sql_base.proofs.keys.append_padded.Given as goal
 
 -- the text and the blanks so far stand behind what was there
 abbrev pub invariant-loop : goal.invariant-loop
-invariant-loop l = l.key.items ≡ l.fn.key.items ++ l.text ++ replicate l.counter 32
+invariant-loop l = l.bytes.items ≡ l.fn.bytes.items ++ l.text ++ replicate l.counter 32

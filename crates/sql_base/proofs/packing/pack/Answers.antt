@@ -1,4 +1,4 @@
-use Rattle.std.proofs.Common.{◌<◌, ◌++◌, ℕ, get_or, length, refl, ap, sym, ◌∙◌}
+use Rattle.std.proofs.Common.{◌<◌, ◌++◌, get_or, length, refl, ap, sym, ◌∙◌}
 use Rattle.std.proofs.lemmas.Option.{slice_get_read}
 use Rattle.sql_base.specs.Rows.{packed_value}
 use Rattle.sql_base.proofs.Choosing.{packed_more}

@@ -1,8 +1,14 @@
 use Rattle.std.proofs.Common.{◌∙◌, ap}
+use Rattle.std.specs.Prelude.{is_some}
 use Rattle.statement_words.specs.Keywords.{keyword_of}
+use Rattle.statement_words.proofs.Formed.{keyword_of-known}
 use Rattle.statement_words.proofs.Spelled.{keyword_of-spelling}
 use Rattle.statement_words.proofs.keywords.keyword_of.Goals as goal
 
 pub returns-clause-found : goal.returns-clause-found
 unfolding keyword_of
 returns-clause-found c k is = c.written_as.ensures ∙ ap keyword_of is ∙ keyword_of-spelling k
+
+pub returns-clause-known : goal.returns-clause-known
+unfolding keyword_of
+returns-clause-known c = ap is_some c.written_as.ensures ∙ keyword_of-known c.args.bytes.now

@@ -21,5 +21,5 @@ pub returns-clause-reply : goal.returns-clause-reply
 returns-clause-reply c =
     let k = kept_reply c.args.partition.now 1 c.args.sync c.args.request.now (omega arith, omega arith) c.requires.openers c.requires.fresh in
     let now = ap (λ (kept : Kept). (opener_in kept 1).kept) c.in-New.ensures.1 in
-    copy_of c.copied.result c.in-Reply.reply.now (entry_of c.args.partition.now.now 1 c.args.sync c.args.request.now).reply c.copied.ensures
+    copy_of c.copy_of.result c.in-Reply.reply.now (entry_of c.args.partition.now.now 1 c.args.sync c.args.request.now).reply c.copy_of.ensures
     (kept_one (opener_in c.serve.new.self 1) c.in-Reply.reply.now (entry_of c.args.partition.now.now 1 c.args.sync c.args.request.now).reply c.in-Reply.ensures.1 (now ∙ k.1))

@@ -1,7 +1,7 @@
 -- Whatever the session does next, the run goes on with it.
 use Rattle.std.proofs.Common.{sym, subst}
-use Rattle.requester_fs.specs.Sessions.{MayCome}
-use Rattle.requester_fs.specs.declared.logs.Answer.TheVariants.{Reply}
+use Rattle.session_grammar.specs.Sessions.{MayCome}
+use Rattle.session_grammar.specs.declared.logs.Answer.TheVariants.{Reply}
 use Rattle.step_world.proofs.Sends.{sending, sent_on}
 use Rattle.step_world.proofs.Draws.{drawing, drawn_on}
 use Rattle.step_world.proofs.actions.step.Goals as goal

@@ -7,7 +7,7 @@ use Rattle.subset_blocks.specs.Blocks.{find_block}
 use Rattle.quantum_core.specs.Quantum.{quantum}
 use Rattle.quantum_core.specs.Walk.{HasColumns}
 use Rattle.partition_core.specs.Contents.{state_of, parts_of, ReadsColumns}
-use Rattle.partition_core.proofs.Blocks.{found_has}
+use Rattle.subset_blocks.proofs.BlockLists.{found_has}
 use Rattle.partition_core.proofs.Begun.{next-told}
 use Rattle.partition_core.proofs.contents.Contents.go_on.Goals as goal
 

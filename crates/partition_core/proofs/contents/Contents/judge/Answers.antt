@@ -5,7 +5,7 @@ use Rattle.sql_base.specs.Locks.{same_txn}
 use Rattle.partition_core.specs.Contents.{state_of, parts_of}
 use Rattle.partition_core.specs.Changes.{tells}
 use Rattle.partition_core.specs.declared.contents.Seat.{Seat}
-use Rattle.partition_core.specs.declared.lives.Live.{Live}
+use Rattle.partition_state.specs.declared.lives.Live.{Live}
 use Rattle.partition_core.proofs.Judged.{not_ended, judged-other, answered-if}
 use Rattle.partition_core.proofs.contents.Contents.judge.Goals as goal
 

@@ -2,7 +2,7 @@ use Rattle.std.proofs.Common.{◌≡◌, ◌∙◌, ap, sym, subst, []}
 use Rattle.std.specs.Prelude.{All, map}
 use Rattle.sql_base.specs.Rows.{IsRow, key_width}
 use Rattle.sql_base.specs.declared.tables.TableDef.{TableDef}
-use Rattle.partition_core.specs.State.{new_cell}
+use Rattle.partition_state.specs.State.{new_cell}
 use Rattle.partition_core.proofs.Opened.{IsServing-new}
 use Rattle.partition_core.proofs.contents.Contents.new.Goals as goal
 

@@ -2,7 +2,7 @@ use Rattle.std.proofs.Common.{◌≡◌, ◌<◌, ◌-◌, List, length, get_or,
 use Rattle.partition_core.specs.Contents.{Parts, parts_of, note_at}
 use Rattle.partition_core.specs.Changes.{at_seat}
 use Rattle.partition_core.specs.declared.contents.Seat.{Seat}
-use Rattle.partition_core.specs.declared.entries.Entry.{Entry}
+use Rattle.partition_state.specs.declared.entries.Entry.{Entry}
 use Rattle.partition_core.proofs.Seats.{set-at_seat}
 use Rattle.partition_core.proofs.contents.Contents.note.Goals as goal
 

@@ -1,7 +1,7 @@
 -- A session that took an answer stands at the next place.
 use Rattle.std.proofs.Common.{◌≤◌, ◌+◌, [], ◌∷◌, ◌++◌, ap, sym, ◌∙◌, subst, arith}
 use Rattle.requester_fs.specs.Leading.{StandsAt, next_of}
-use Rattle.requester_fs.specs.Sessions.{MayCome, Working, entries_kept}
+use Rattle.session_grammar.specs.Sessions.{MayCome, Working, entries_kept}
 use Rattle.requester_fs.proofs.Standing.{sync_after-le, stands_taken, stands_session}
 use Rattle.requester_fs.proofs.sessions.Session.take.Goals as goal
 

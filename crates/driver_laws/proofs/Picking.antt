@@ -1,0 +1,185 @@
+-- What a partition keeps for an opener: the sync and the reply of its last entry.
+use Rattle.std.proofs.Common.{◌≡◌, ◌≢◌, ◌≤◌, ◌<◌, ◌-◌, ℕ, zero, suc, List, [], ◌∷◌, ◌++◌, length, replicate, Some, None, true, false, refl, ap, sym, ◌∙◌, subst, inl, inr, arith, Bool, get_or, map}
+use Rattle.std.proofs.lemmas.Bool.{cases_eq, eq-eqb, eqb-true, false≢true}
+use Rattle.std.proofs.lemmas.List.Elements.{filter-append}
+use Rattle.std.specs.Prelude.{◌⊎◌, filter, slice_get, unwrap_or, Contains, nat_le, ◌||◌}
+use Rattle.std.specs.List.{AllByRecursion, list_any}
+use Rattle.std.proofs.lemmas.Bool.Decides.{nat_tests}
+use Rattle.sql_base.specs.Scripts.{Lies}
+use Rattle.sql_base.specs.declared.scripts.Script.{Script}
+use Rattle.one_thread.specs.One.{loaded}
+use Rattle.dp_messages.specs.declared.replies.Reply.{Reply as PartitionReply}
+use Rattle.dp_messages.specs.declared.requests.Request.{Request}
+use Rattle.partition_state.specs.History.{IsLegal, replay}
+use Rattle.partition_state.specs.State.{Opener, State, new_opener, opener_of}
+use Rattle.partition_state.specs.Step.{step}
+use Rattle.partition_state.specs.declared.entries.Entry.{Entry}
+use Rattle.session_grammar.specs.Rows.{fits, is_for}
+use Rattle.session_grammar.specs.declared.logs.Answer.TheVariants.{Reply}
+use Rattle.session_grammar.specs.declared.logs.LogEntry.{LogEntry}
+use Rattle.session_grammar.specs.declared.logs.LogEntry.TheVariants.{Asked, Drew}
+use Rattle.run_record.specs.Legal.{AreServed}
+use Rattle.run_record.specs.Openings.{history_of, log_of, openings}
+use Rattle.run_record.specs.declared.records.RunRecord.{RunRecord}
+use Rattle.partition_laws.specs.Keeping.{Keeps}
+use Rattle.partition_laws.specs.Moves.{by}
+use Rattle.partition_laws.proofs.OpenerLaws.{last-rises, opener-others}
+use Rattle.partition_laws.proofs.Openers.{seat-set}
+use Rattle.partition_laws.proofs.Stepped.{IsNew, answer_to, replied-new}
+use Rattle.partition_laws.proofs.Steps.{Keeps-answered, Keeps-step}
+use Rattle.state_facts.proofs.Openings.{opened-fresh}
+use Rattle.record_laws.specs.SoFar.{AreAbove, IsAbove, LegalSoFar, Sending, Sends, Draws, UnderWay, unanswered, way_of}
+use Rattle.record_laws.proofs.FitsSoFar.{IsFresh, found_of, fresh_from, zip_at}
+use Rattle.record_laws.specs.Standing.{PlansSuit}
+use Rattle.record_laws.proofs.Joined.{sends_fit-so_far}
+use Rattle.record_laws.proofs.Lists.{all_at, all_joined, all_through, all_weaker}
+use Rattle.record_laws.proofs.Served.{served_all}
+use Rattle.record_laws.proofs.Sessions.{by_opener}
+use Rattle.driver_laws.specs.Scheduling.{is_old, posted_of}
+use Rattle.driver_laws.specs.Moves.{IsOpen, MayAnswer, asked_so_far}
+use Rattle.driver_laws.proofs.Openings.{open_for, the_open}
+use Rattle.driver_laws.proofs.Seats.{contains_filter}
+
+-- the reply of a new request is kept
+told_kept : (p : State) (opener sync : ℕ) (request : Request) (reply : PartitionReply) → Keeps p → Lies 1 8 opener → (step p opener sync request).reply ≡ Some reply → (opener_of (step p opener sync request).state opener).kept ≡ Some reply
+told_kept p opener sync request reply k lies told =
+    let new : IsNew p opener sync request reply = replied-new p opener sync request reply told in
+    let a = answer_to p opener request in
+    let eight = (Keeps-answered p (by opener request) request.ask lies k).openers in
+    ap (λ (q : State). (opener_of q opener).kept) new.state
+    ∙ ap (λ (o : Opener). o.kept) (seat-set a.state.openers opener (record (opener_of a.state opener) { last = sync; starved = false; kept = Some reply }) lies eight)
+
+-- it is that of an entry of the history, or what was kept before
+abbrev IsOfLast : ℕ → List Entry → Opener → Opener → Type 0
+IsOfLast n history before now = ((now.last ≡ before.last) × (now.kept ≡ before.kept)) ⊎ ((e : Entry) × Contains history e × (e.opener ≡ n) × (now.last ≡ e.sync) × (now.kept ≡ Some e.reply))
+
+of_last : (p : State) (history : List Entry) (n : ℕ) → Keeps p → IsLegal p history → Lies 1 8 n → IsOfLast n history (opener_of p n) (opener_of (replay p history) n)
+of_last p [] n k legal lies = inl (refl, refl)
+of_last p (e ∷ es) n k legal lies =
+    by_rest (opener_of (replay q es) n) (of_last q es n (Keeps-step p e.opener e.sync e.request legal.0 k) legal.2 lies)
+  where
+    q : State
+    q = (step p e.opener e.sync e.request).state
+
+    first : (now : Opener) → (now.last ≡ (opener_of q n).last) × (now.kept ≡ (opener_of q n).kept) → (n ≡ e.opener) ⊎ (n ≢ e.opener) → IsOfLast n (e ∷ es) (opener_of p n) now
+    first now same (inl own) =
+        let r = last-rises p e.opener e.sync e.request e.reply k legal.0 legal.1 in
+        let kept = told_kept p e.opener e.sync e.request e.reply k legal.0 legal.1 in
+        let last_is : (opener_of q n).last ≡ e.sync = subst (λ m. (opener_of q m).last ≡ e.sync) (sym own) r.1 in
+        let kept_is : (opener_of q n).kept ≡ Some e.reply = subst (λ m. (opener_of q m).kept ≡ Some e.reply) (sym own) kept in
+        inr (e, (zero, omega arith, refl), sym own, same.0 ∙ last_is, same.1 ∙ kept_is)
+    first now same (inr other) =
+        let stays = opener-others p e.opener e.sync e.request n legal.0 lies other in
+        inl (same.0 ∙ ap (λ (o : Opener). o.last) stays, same.1 ∙ ap (λ (o : Opener). o.kept) stays)
+
+    by_rest : (now : Opener) → IsOfLast n es (opener_of q n) now → IsOfLast n (e ∷ es) (opener_of p n) now
+    by_rest now (inl same) = first now same (cases_eq n e.opener)
+    by_rest now (inr one) = inr (one.0, (suc one.1.0, omega (arith, one.1.1), one.1.2), one.2, one.3, one.4)
+
+fresh_at : (m k : ℕ) → unwrap_or (slice_get (replicate m new_opener) k) new_opener ≡ new_opener
+fresh_at zero k = refl
+fresh_at (suc m) zero = refl
+fresh_at (suc m) (suc k) = fresh_at m k
+
+module _ (script : Script) (kept : RunRecord) (ways : List UnderWay) (legal : LegalSoFar script kept ways) (session : ℕ) (lies : Lies 1 (length script.sessions) session)
+    (part : ℕ) (within : part < length kept.histories) (p : State) (opens : slice_get (openings script) part ≡ Some p) where
+  abbrev now : Opener
+  now = opener_of (replay p (history_of kept part)) session
+
+  fresh : opener_of p session ≡ new_opener
+  fresh =
+      let is = found_of IsFresh (openings script) part p (fresh_from script.limits script.tables (loaded script).records) opens in
+      ap (λ (os : List Opener). unwrap_or (slice_get os (session - 1)) new_opener) is.2 ∙ fresh_at 8 (session - 1)
+
+  pub is_legal : IsLegal p (history_of kept part)
+  is_legal =
+      let found = zip_at IsLegal (openings script) kept.histories [] part legal.histories_replay within in
+      let both : Some found.0 ≡ Some p = sym found.1 ∙ opens in
+      let same : found.0 ≡ p = cc both in
+      subst (λ (q : State). IsLegal q (history_of kept part)) same found.2
+
+  its_last : IsOfLast session (history_of kept part) new_opener now
+  its_last =
+      let few = legal.script_runs.some_sessions.1 in
+      subst (λ (o : Opener). IsOfLast session (history_of kept part) o now) fresh
+      (of_last p (history_of kept part) session (opened-fresh script part p legal.script_runs opens).keeps is_legal (lies.0, omega (arith, lies.1, few)))
+
+  -- a reply that is kept for a request under way is that of its entry
+  pub picked : (s : Sending) (losses : ℕ) (r : PartitionReply) → s.part ≡ part → now.last ≡ s.sync → now.kept ≡ Some r → MayAnswer kept session s losses (Reply r)
+  picked s losses r here last told = of its_last
+    where
+      of : IsOfLast session (history_of kept part) new_opener now → MayAnswer kept session s losses (Reply r)
+      of (inl none) = let both : None ≡ Some r = sym none.1 ∙ told in absurd (cc both)
+      of (inr one) =
+          let both : Some one.0.reply ≡ Some r = sym one.4 ∙ told in
+          let same : one.0.reply ≡ r = cc both in
+          (one.0, subst (λ n. Contains (history_of kept n) one.0) (sym here) one.1, one.2, sym one.3 ∙ last, same)
+
+  abbrev IsUpTo : ℕ → LogEntry → Type 0
+  IsUpTo sync (Asked a x q l w) = x ≤ sync
+  IsUpTo sync (Drew n f w) = Unit {0}
+
+  -- and no entry is later than it
+  pub never_passed : (s : Sending) → s.part ≡ part → IsOpen (way_of ways session) s → now.last ≤ s.sync
+  never_passed s here is_open = of its_last
+    where
+      up_to : (way : UnderWay) → AreAbove (log_of kept session) way → IsOpen way s → AllByRecursion (IsUpTo s.sync) (filter (is_for s.part) (log_of kept session ++ unanswered way))
+      up_to (Draws name floor) above none = absurd none
+      up_to (Sends sends) above is_in =
+          let log = log_of kept session in
+          let below = all_at (λ (x : Sending). AllByRecursion (λ e. IsAbove e x) log) s sends is_in above.0 in
+          let front = all_through (is_for s.part) (IsUpTo s.sync) log (all_weaker (λ e. IsAbove e s) (λ e. is_for s.part e ≡ true → IsUpTo s.sync e) of_one log below) in
+          let alone = the_open log (Sends sends) s above is_in in
+          subst (AllByRecursion (IsUpTo s.sync)) (sym (filter-append (is_for s.part) log (unanswered (Sends sends))))
+          (all_joined (IsUpTo s.sync) (filter (is_for s.part) log) (open_for s.part (Sends sends)) front (subst (AllByRecursion (IsUpTo s.sync)) (sym alone) (omega arith, tt)))
+        where
+          of_one : (e : LogEntry) → IsAbove e s → is_for s.part e ≡ true → IsUpTo s.sync e
+          of_one (Asked a x q l w) above for_it = let lt = above (eqb-true a s.part for_it) in omega (arith, lt)
+          of_one (Drew n f w) above for_it = tt
+
+      entries : AllByRecursion (λ (e : Entry). e.sync ≤ s.sync) (filter (by_opener session) (history_of kept part))
+      entries =
+          served_all (IsUpTo s.sync) (λ (e : Entry). e.sync ≤ s.sync) (λ a x q l w f u is. omega (arith, u, is.0)) (filter (is_for s.part) (asked_so_far kept ways session)) (filter (by_opener session) (history_of kept part))
+          (up_to (way_of ways session) (legal.logs_begin.each session lies).0 is_open)
+          (subst (λ n. AreServed (filter (is_for n) (asked_so_far kept ways session)) (filter (by_opener session) (history_of kept part))) (sym here) (legal.entries_asked.served part session within lies))
+
+      of : IsOfLast session (history_of kept part) new_opener now → now.last ≤ s.sync
+      of (inl none) = omega (arith, none.0)
+      of (inr one) =
+          let mine = contains_filter (by_opener session) (history_of kept part) one.0 (eq-eqb one.0.opener session one.2) one.1 in
+          let low = all_at (λ (e : Entry). e.sync ≤ s.sync) one.0 (filter (by_opener session) (history_of kept part)) mine entries in
+          omega (arith, low, one.3)
+
+  -- a message with a sync up to the last one was served before
+  pub served_before : (sync : ℕ) → 0 < sync → sync ≤ now.last → list_any (is_old (record { opener = session; sync = sync })) (map posted_of (history_of kept part)) ≡ true
+  served_before sync some old = of its_last
+    where
+      found : (es : List Entry) (e : Entry) (k : ℕ) → k < length es → get_or es k e ≡ e → is_old (record { opener = session; sync = sync }) (posted_of e) ≡ true
+          → list_any (is_old (record { opener = session; sync = sync })) (map posted_of es) ≡ true
+      found [] e k lt is t = absurd (omega (arith, lt))
+      found (f ∷ es) e zero lt is t = or_first (is_old (record { opener = session; sync = sync }) (posted_of f)) (list_any (is_old (record { opener = session; sync = sync })) (map posted_of es)) (ap (λ (x : Entry). is_old (record { opener = session; sync = sync }) (posted_of x)) is ∙ t)
+        where
+          or_first : (a b : Bool) → a ≡ true → (a || b) ≡ true
+          or_first true b h = refl
+          or_first false b h = absurd (false≢true h)
+      found (f ∷ es) e (suc k) lt is t = or_second (is_old (record { opener = session; sync = sync }) (posted_of f)) (list_any (is_old (record { opener = session; sync = sync })) (map posted_of es)) (found es e k (omega (arith, lt)) is t)
+        where
+          or_second : (a b : Bool) → b ≡ true → (a || b) ≡ true
+          or_second true b h = refl
+          or_second false b h = h
+
+      le_true : (a b : ℕ) → a ≤ b → nat_le a b ≡ true
+      le_true a b h = grind (arith, nat_tests)
+
+      of : IsOfLast session (history_of kept part) new_opener now → list_any (is_old (record { opener = session; sync = sync })) (map posted_of (history_of kept part)) ≡ true
+      of (inl none) = absurd (omega (arith, none.0, some, old))
+      of (inr one) =
+          let here = eq-eqb one.0.opener session one.2 in
+          let up_to = le_true sync one.0.sync (omega (arith, old, one.3)) in
+          found (history_of kept part) one.0 one.1.0 one.1.1 one.1.2 (rw (here, up_to) refl)
+
+-- the reply of the entry of a request under way fits it
+pub answer_fits : (script : Script) (kept : RunRecord) (ways : List UnderWay) → PlansSuit script → LegalSoFar script kept ways → (session : ℕ) → Lies 1 (length script.sessions) session → (sends : List Sending) (s : Sending) (r : PartitionReply)
+    → way_of ways session ≡ Sends sends → Contains sends s → s.part < length kept.histories → (losses : ℕ) → MayAnswer kept session s losses (Reply r) → fits s.request.ask r ≡ true
+answer_fits script kept ways plans legal session lies sends s r is is_in within losses may =
+    subst (λ reply. fits s.request.ask reply ≡ true) may.4 (sends_fit-so_far script kept ways plans legal session sends s may.0 lies is is_in within may.1 may.2 may.3)

@@ -1,0 +1,87 @@
+-- What one action of a driver does to the record of a run, and what a requester keeps.
+use Rattle.std.specs.Prelude.{◌≡◌, ◌≢◌, ◌-◌, ◌+◌, max, ℕ, List, [], ◌∷◌, ◌++◌, map, filter, slice_get, slice_set, Some, Contains}
+use Rattle.sql_base.specs.declared.lock_names.TxnName.{TxnName}
+use Rattle.sql_base.specs.declared.scripts.Script.{Script}
+use Rattle.commit_journal.specs.declared.Drawn.{Drawn}
+use Rattle.dp_messages.specs.declared.requests.Request.{Request}
+use Rattle.partition_state.specs.History.{replay}
+use Rattle.partition_state.specs.State.{State}
+use Rattle.partition_state.specs.Step.{step}
+use Rattle.partition_state.specs.declared.entries.Entry.{Entry}
+use Rattle.session_grammar.specs.Rows.{is_for}
+use Rattle.session_grammar.specs.declared.logs.Answer.{Answer}
+use Rattle.session_grammar.specs.declared.logs.Answer.TheVariants.{Reply, PathFailed, Stamp}
+use Rattle.session_grammar.specs.declared.logs.LogEntry.{LogEntry}
+use Rattle.session_grammar.specs.declared.logs.LogEntry.TheVariants.{Asked, Drew}
+use Rattle.run_record.specs.Openings.{history_of, log_of, openings}
+use Rattle.run_record.specs.declared.records.Act.{Act}
+use Rattle.run_record.specs.declared.records.RunRecord.{RunRecord}
+use Rattle.record_laws.specs.SoFar.{AreAbove, Begins, Sending, Sends, Draws, UnderWay, unanswered, way_of}
+use Rattle.commit_journal.specs.Journal.{last_stamp}
+
+-- the record with another log of a session, with one more entry in a history, or with one more commit
+abbrev pub with_log : RunRecord → ℕ → List LogEntry → RunRecord
+with_log kept session log = record kept { logs = slice_set kept.logs (session - 1) log }
+
+abbrev pub with_entry : RunRecord → ℕ → Entry → RunRecord
+with_entry kept part e = record kept { histories = slice_set kept.histories part (history_of kept part ++ e ∷ []) }
+
+abbrev pub with_drawn : RunRecord → Drawn → RunRecord
+with_drawn kept d = record kept { journal = kept.journal ++ d ∷ [] }
+
+abbrev pub with_acts : RunRecord → List Act → RunRecord
+with_acts kept acts = record kept { acts = acts }
+
+-- with something else under way in a session
+abbrev pub with_way : List UnderWay → ℕ → UnderWay → List UnderWay
+with_way ways session way = slice_set ways (session - 1) way
+
+-- all that a session has asked so far, and so each message that it posted
+abbrev pub asked_so_far : RunRecord → List UnderWay → ℕ → List LogEntry
+asked_so_far kept ways session = log_of kept session ++ unanswered (way_of ways session)
+
+abbrev pub IsPosted : RunRecord → List UnderWay → ℕ → ℕ → ℕ → Request → Type 0
+IsPosted kept ways session part sync request = (losses : ℕ) × (answer : Answer) × Contains (asked_so_far kept ways session) (Asked part sync request losses answer)
+
+-- the entry is what the partition answers next to a request with a new sync
+abbrev pub IsNext : Script → RunRecord → ℕ → Entry → Type 0
+IsNext script kept part e =
+    (p : State) × (slice_get (openings script) part ≡ Some p) × ((step (replay p (history_of kept part)) e.opener e.sync e.request).reply ≡ Some e.reply)
+
+-- the entry is put into the log, behind all that was asked of its partition
+abbrev pub IsPutIn : ℕ → LogEntry → List LogEntry → List LogEntry → Type 0
+IsPutIn part entry log after = (front : List LogEntry) × (back : List LogEntry) × (log ≡ front ++ back) × (after ≡ front ++ entry ∷ back) × (filter (is_for part) back ≡ [])
+
+-- a request is under way
+abbrev pub IsOpen : UnderWay → Sending → Type 0
+IsOpen (Sends sends) s = Contains sends s
+IsOpen (Draws name floor) s = ⊥
+
+-- what a requester keeps: its log with what is under way begins one that its script allows, whatever is answered
+abbrev pub Asks : Script → ℕ → List LogEntry → UnderWay → Type 0
+Asks script session log way = AreAbove log way × Begins script session way log
+
+-- a requester has taken the answer to a request under way: those to other partitions stay, and it may have opened more
+pub record Takes (script : Script) (session : ℕ) (log : List LogEntry) (sends : List Sending) (s : Sending) (losses : ℕ) (answer : Answer) (after : List LogEntry) (way : UnderWay) : Type 0 where
+  pub put_in : IsPutIn s.part (Asked s.part s.sync s.request losses answer) log after
+  pub stay : (other : Sending) → Contains sends other → other.part ≢ s.part → IsOpen way other
+  pub asks : Asks script session after way
+
+-- it has taken the stamp of its commit
+pub record Stamps (script : Script) (session : ℕ) (log : List LogEntry) (d : Drawn) (after : List LogEntry) (way : UnderWay) : Type 0 where
+  pub put_in : after ≡ log ++ Drew d.name d.floor (Stamp d.stamp) ∷ []
+  pub asks : Asks script session after way
+
+-- the answer to a request under way: the reply of its entry, or that its path failed
+abbrev pub MayAnswer : RunRecord → ℕ → Sending → ℕ → Answer → Type 0
+MayAnswer kept session s losses (Reply r) = (e : Entry) × Contains (history_of kept s.part) e × (e.opener ≡ session) × (e.sync ≡ s.sync) × (e.reply ≡ r)
+MayAnswer kept session s losses PathFailed = losses ≡ 4
+MayAnswer kept session s losses (Stamp stamp) = ⊥
+
+-- the commit that the journal draws next
+abbrev pub next_drawn : RunRecord → TxnName → ℕ → Drawn
+next_drawn kept name floor = record { name = name; floor = floor; stamp = max (last_stamp 0 kept.journal) floor + 1 }
+
+-- the record as a run begins
+abbrev pub nothing_yet : Script → RunRecord
+nothing_yet script = record { histories = map (λ p. []) (openings script); journal = []; logs = map (λ works. []) script.sessions; acts = [] }

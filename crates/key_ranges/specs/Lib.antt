@@ -1,0 +1,4 @@
+pub mod Bounds
+pub mod Intervals
+pub mod Texts
+pub mod Spans

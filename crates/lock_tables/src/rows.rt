@@ -1,0 +1,122 @@
+//! Locks in a vector with reserved room.
+ghost use Rattle.std.specs.Prelude.{◌≡◌, ◌<◌, ◌≤◌, ◌+◌, ◌++◌, ◌∷◌, [], insert, length, position, option_copied, vec_len, vec_capacity, IfOk, OnOk, OnErr};
+ghost use Rattle.std.specs.List.{list_any, position_or_len};
+ghost use Rattle.sql_base.specs.Locks.{conflicts, covers, first_conflict, granted, released};
+ghost use Rattle.lock_tables.specs.LockTables.{Answers, is_behind, table_of};
+
+use crate::faults::LockFault;
+use crate::orders::{bars, compare, is_cover};
+use sql_base::{Lock, Mode, NoMemory, TxnName};
+use std::alloc::Global;
+
+/// The first lock that conflicts with the holder's lock of the prefix in the mode.
+pub fn first_bar<'a>(
+    locks: &'a [Lock],
+    holder: TxnName,
+    prefix: &[u8],
+    mode: Mode,
+) -> Option<&'a Lock>
+    ensures { option_copied result ≡ first_conflict locks.now holder prefix.now mode }
+{
+    for lock in locks {
+        if bars(lock, holder, prefix, mode) {
+            return Some(lock);
+        }
+    }
+    None
+}
+
+/// Grants a lock, unless another's lock conflicts with it. An own lock that covers it stands for it.
+pub fn grant(locks: &mut Vec<Lock>, lock: Lock) -> Result<(), LockFault>
+    ensures answer { Answers (table_of locks.old) lock result }
+    ensures ok { OnOk result (locks.new.items ≡ granted lock locks.old.items) }
+    ensures err { OnErr result (locks.new.items ≡ locks.old.items) }
+    ensures spare { (table_of locks.old).spare ≤ (table_of locks.new).spare + 1 }
+{
+    if let Some(at) = conflict_at(locks, &lock) {
+        return Err(LockFault::Conflict { at });
+    }
+    if is_covered(locks, &lock) {
+        return Ok(());
+    }
+    let at = place_of(locks, &lock);
+    match locks.insert(at, lock) {
+        Ok(()) => Ok(()),
+        Err(_) => Err(LockFault::NoMemory),
+    }
+}
+
+/// Adds a lock at its place, for which there is room, unless an own lock covers it.
+pub fn admit(locks: &mut Vec<Lock>, lock: Lock)
+    requires room { vec_len locks.old < vec_capacity locks.old }
+    ensures items { locks.new.items ≡ granted lock locks.old.items }
+    ensures spare { (table_of locks.old).spare ≤ (table_of locks.new).spare + 1 }
+{
+    if is_covered(locks, &lock) {
+        return;
+    }
+    let place = place_of(locks, &lock);
+    insert(locks, place, lock);
+}
+
+fn insert(locks: &mut Vec<Lock>, at: usize, lock: Lock)
+    requires room { vec_len locks.old < vec_capacity locks.old }
+    requires within { at ≤ vec_len locks.old }
+    ensures items { locks.new.items ≡ insert locks.old.items at lock }
+    ensures one { vec_len locks.new ≡ vec_len locks.old + 1 }
+    ensures capacity { vec_capacity locks.new ≡ vec_capacity locks.old }
+{
+    let inserted = locks.insert(at, lock);
+    prove!(inserted.is_ok());
+}
+
+fn conflict_at(locks: &[Lock], wanted: &Lock) -> Option<usize>
+    ensures { result ≡ position (conflicts wanted.now) locks.now }
+{
+    locks.iter().position(|lock| bars(lock, wanted.holder, wanted.prefix.bytes(), wanted.mode))
+}
+
+fn is_covered(locks: &[Lock], wanted: &Lock) -> bool
+    ensures { result ≡ list_any (λ own. covers own wanted.now) locks.now }
+{
+    locks.iter().any(|own| is_cover(own, wanted))
+}
+
+/// How many locks stand before the place of this one.
+fn place_of(locks: &[Lock], lock: &Lock) -> usize
+    ensures place { result ≡ position_or_len (is_behind lock.now) locks.now }
+    ensures within { result ≤ length locks.now }
+{
+    first_behind(locks, lock).unwrap_or(locks.len())
+}
+
+fn first_behind(locks: &[Lock], lock: &Lock) -> Option<usize>
+    ensures { result ≡ position (is_behind lock.now) locks.now }
+{
+    locks.iter().position(|other| compare(lock, other).is_lt())
+}
+
+/// Gives up the locks of a transaction.
+pub fn release(locks: &mut Vec<Lock>, t: TxnName)
+    ensures items { locks.new.items ≡ released t locks.old.items }
+    ensures spare { (table_of locks.old).spare ≤ (table_of locks.new).spare }
+{
+    locks.retain(|lock| lock.holder != t);
+}
+
+pub fn copies(alloc: Global, locks: &[Lock]) -> Result<Vec<Lock>, NoMemory>
+    ensures { IfOk result (λ copies. copies.items ≡ locks.now) }
+{
+    let mut copies = Vec::new(alloc);
+    for lock in locks {
+        append_copy(&mut copies, alloc, lock)?;
+    }
+    Ok(copies)
+}
+
+fn append_copy(copies: &mut Vec<Lock>, alloc: Global, lock: &Lock) -> Result<(), NoMemory>
+    ensures { OnOk result (copies.new.items ≡ copies.old.items ++ lock.now ∷ []) }
+{
+    copies.push(lock.clone()?)?;
+    Ok(())
+}

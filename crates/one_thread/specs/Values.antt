@@ -1,0 +1,40 @@
+-- What the evaluator gives, as values of expressions.
+use Rattle.std.specs.Prelude.{ℕ, ℤ, Option, Some, None, Bool, false, Result, Ok, Err}
+use Rattle.sql_base.specs.Val.{Item, Outcome, IsNumber, IsText, IsTruth, IsNothing}
+use Rattle.sql_base.specs.declared.faults.EvalFault.{EvalFault}
+use Rattle.sql_base.specs.declared.faults.EvalFault.TheVariants.{Overflow}
+use Rattle.sql_base.specs.declared.faults.Fault.{Fault}
+use Rattle.sql_base.specs.declared.faults.Fault.TheVariants.{CheckFailed}
+use Rattle.sql_base.specs.OnRows.{fault_of}
+use Rattle.one_thread.specs.declared.values.Item.{Item as Held}
+use Rattle.one_thread.specs.declared.values.Item.TheVariants as held
+
+abbrev pub item_in : Held → Item
+item_in (held.Number n) = IsNumber n
+item_in (held.Text text) = IsText text.now
+item_in (held.Truth b) = IsTruth b
+item_in held.Nothing = IsNothing
+
+abbrev pub outcome_in : Result Held EvalFault → Outcome
+outcome_in (Ok item) = Ok (item_in item)
+outcome_in (Err fault) = Err fault
+
+abbrev pub number_in : Result ℤ EvalFault → Outcome
+number_in (Ok n) = Ok (IsNumber n)
+number_in (Err fault) = Err fault
+
+abbrev pub or_overflow : Option ℤ → Result ℤ EvalFault
+or_overflow (Some n) = Ok n
+or_overflow None = Err Overflow
+
+-- whether a value is true, or its fault
+abbrev pub truth_of : Outcome → Result Bool EvalFault
+truth_of (Err fault) = Err fault
+truth_of (Ok (IsTruth b)) = Ok b
+truth_of (Ok item) = Ok false
+
+-- the fault of the CHECK of this number with this value
+abbrev pub failing : ℕ → Outcome → Option Fault
+failing number (Err fault) = Some (fault_of fault)
+failing number (Ok (IsTruth false)) = Some (CheckFailed number)
+failing number (Ok item) = None

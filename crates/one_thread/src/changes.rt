@@ -1,0 +1,143 @@
+//! What an UPDATE and the CHECKs make of one row.
+
+ghost use Rattle.std.specs.Prelude.{◌≡◌, ◌<◌, ◌^◌, Option, is_some, length, option_map, slice_get, slice_set, unwrap_or, IfOk, OnOk};
+ghost use Rattle.std.specs.List.{list_any};
+ghost use Rattle.sql_base.specs.OnRows.{fault_of, first_failing, stored, updated};
+ghost use Rattle.sql_base.specs.Rows.{kinds, padded, width};
+ghost use Rattle.sql_base.specs.Val.{val};
+ghost use Rattle.one_thread.specs.Values.{failing, item_in};
+
+use crate::values::{Item, value};
+use sql_base::{
+    Assign, ColumnKind, EvalFault, Expr, Fault, List, NoMemory, Row, TableDef, Text, Value,
+};
+use std::alloc::Global;
+
+pub fn fault_of(fault: EvalFault) -> Fault
+    ensures { result ≡ fault_of fault }
+{
+    match fault {
+        EvalFault::Overflow => Fault::Overflow,
+        EvalFault::ZeroDivide => Fault::ZeroDivide,
+    }
+}
+
+/// A row of its own, equal to this one.
+pub fn copied(alloc: Global, row: &Row) -> Result<Row, NoMemory>
+    ensures { IfOk result (λ copy. copy ≡ row.now) }
+{
+    let values = row.values().to_vec(alloc)?;
+    Ok(Row::from_values(List::from_vec(values)))
+}
+
+/// The row after its SETs, each taken from the row as it was, or the first fault in written order.
+pub fn updated(
+    alloc: Global,
+    table: &TableDef,
+    sets: &[Assign],
+    row: &[Value],
+) -> Result<Result<Row, EvalFault>, NoMemory>
+    ensures { IfOk result (λ made. made ≡ updated table.now sets.now row.now) }
+{
+    let mut values = row.to_vec(alloc)?;
+    for set in sets {
+        match value(&set.value, row) {
+            Ok(item) => store(alloc, table, &mut values, set.column, item)?,
+            Err(fault) => return Ok(Err(fault)),
+        }
+    }
+    Ok(Ok(Row::from_values(List::from_vec(values))))
+}
+
+fn store(
+    alloc: Global,
+    table: &TableDef,
+    values: &mut Vec<Value>,
+    column: u8,
+    item: Item,
+) -> Result<(), NoMemory>
+    ensures { OnOk result (values.new.items ≡ stored table.now column values.old.items (item_in item.entry)) }
+{
+    match item {
+        Item::Number(number) => put(values, column, Value::Int(number)),
+        Item::Text(text) => {
+            let wide = padded(alloc, text, width_at(table, column))?;
+            put(values, column, Value::Text(wide));
+        }
+        Item::Truth(_) => {}
+        Item::Nothing => {}
+    }
+    Ok(())
+}
+
+fn put(values: &mut Vec<Value>, column: u8, value: Value)
+    ensures { values.new.items ≡ slice_set values.old.items column value }
+{
+    let at = column as usize;
+    if at < values.len() {
+        values[at] = value;
+    }
+}
+
+fn width_at(table: &TableDef, column: u8) -> usize
+    ensures { result ≡ unwrap_or (option_map width (slice_get (kinds table.now) column)) 0 }
+{
+    match table.columns.items().get(column as usize) {
+        Some(column) => match column.kind {
+            ColumnKind::Int => 8,
+            ColumnKind::Char(width) => width as usize,
+        },
+        None => 0,
+    }
+}
+
+fn padded(alloc: Global, text: &[u8], width: usize) -> Result<Text, NoMemory>
+    ensures { IfOk result (λ wide. wide ≡ padded width text.now) }
+{
+    let blanks = width.saturating_sub(text.len());
+    let mut bytes = text.to_vec(alloc)?;
+    for _ in 0..blanks {
+        bytes.push(b' ')?;
+    }
+    Ok(Text::from_vec(bytes))
+}
+
+/// The fault of the first CHECK that faults or is false. CHECKs count from 1.
+pub fn first_failing(checks: &[Expr], row: &[Value]) -> Option<Fault>
+    requires few { length checks.now < 2 ^ 32 }
+    ensures { result ≡ first_failing checks.now row.now }
+{
+    for (i, check) in checks.iter().enumerate() {
+        let fault = failing(check, row, i as u32 + 1);
+        if fault.is_some() {
+            return fault;
+        }
+    }
+    None
+}
+
+/// Whether a CHECK is false on the row, or faults.
+pub fn fails(checks: &[Expr], row: &[Value]) -> bool
+    ensures { result ≡ is_some (first_failing checks.now row.now) }
+{
+    any_fails(checks, row)
+}
+
+fn any_fails(checks: &[Expr], row: &[Value]) -> bool
+    ensures { result ≡ list_any (λ check. is_some (failing 1 (val check row.now))) checks.now }
+{
+    checks.iter().any(|check| failing(check, row, 1).is_some())
+}
+
+fn failing(check: &Expr, row: &[Value], number: u32) -> Option<Fault>
+    ensures { result ≡ failing number (val check.now row.now) }
+{
+    match value(check, row) {
+        Ok(Item::Truth(true)) => None,
+        Ok(Item::Truth(false)) => Some(Fault::CheckFailed { number }),
+        Ok(Item::Number(_)) => None,
+        Ok(Item::Text(_)) => None,
+        Ok(Item::Nothing) => None,
+        Err(fault) => Some(fault_of(fault)),
+    }
+}

@@ -1,0 +1,185 @@
+//! The value of an expression on a row, evaluated along its tree.
+
+ghost use Rattle.std.specs.Prelude.{◌≡◌, Ok, slice_get, slice_index_or};
+ghost use Rattle.sql_base.specs.Val.{arith, column_item, compared, computed, filter_val, holds, text_cmp, val};
+ghost use Rattle.one_thread.specs.Values.{item_in, number_in, or_overflow, outcome_in, truth_of};
+
+use sql_base::{ArithOp, CompareOp, EvalFault, Expr, Value};
+use std::cmp::Ordering;
+
+/// What an expression gives: a number, a text of the expression or the row, a truth value, or nothing where its
+/// operands are of wrong kinds.
+#[derive(Clone, Copy, Debug)]
+pub enum Item<'a> {
+    Number(i64),
+    Text(&'a [u8]),
+    Truth(bool),
+    Nothing,
+}
+
+fn or_overflow(number: Option<i64>) -> Result<i64, EvalFault>
+    ensures { result ≡ or_overflow number }
+{
+    match number {
+        Some(number) => Ok(number),
+        None => Err(EvalFault::Overflow),
+    }
+}
+
+fn compute(op: ArithOp, x: i64, y: i64) -> Result<i64, EvalFault>
+    ensures { number_in result ≡ arith op x y }
+{
+    match op {
+        ArithOp::Add => or_overflow(x.checked_add(y)),
+        ArithOp::Sub => or_overflow(x.checked_sub(y)),
+        ArithOp::Mul => or_overflow(x.checked_mul(y)),
+        ArithOp::Div => {
+            if y == 0 {
+                Err(EvalFault::ZeroDivide)
+            } else {
+                or_overflow(x.checked_div(y))
+            }
+        }
+    }
+}
+
+fn holds(op: CompareOp, order: Ordering) -> bool
+    ensures { result ≡ holds op order }
+{
+    match op {
+        CompareOp::Eq => order.is_eq(),
+        CompareOp::Ne => order.is_ne(),
+        CompareOp::Lt => order.is_lt(),
+        CompareOp::Le => order.is_le(),
+        CompareOp::Gt => order.is_gt(),
+        CompareOp::Ge => order.is_ge(),
+    }
+}
+
+fn byte_or_blank(text: &[u8], at: usize) -> u8
+    ensures { result ≡ slice_index_or text.now at 32 }
+{
+    if at < text.len() { text[at] } else { b' ' }
+}
+
+// The shorter text counts as padded with blanks.
+fn compare_texts(a: &[u8], b: &[u8]) -> Ordering
+    ensures { result ≡ text_cmp a.now b.now }
+{
+    let common = a.len().max(b.len());
+    for i in 0..common {
+        let x = byte_or_blank(a, i);
+        let y = byte_or_blank(b, i);
+        if x != y {
+            return x.cmp(&y);
+        }
+    }
+    Ordering::Equal
+}
+
+fn calculated<'a>(op: ArithOp, a: Item<'a>, b: Item<'a>) -> Result<Item<'a>, EvalFault>
+    ensures { outcome_in result ≡ computed op (item_in a.entry) (item_in b.entry) }
+{
+    match a {
+        Item::Number(x) => match b {
+            Item::Number(y) => match compute(op, x, y) {
+                Ok(number) => Ok(Item::Number(number)),
+                Err(fault) => Err(fault),
+            },
+            Item::Text(_) => Ok(Item::Nothing),
+            Item::Truth(_) => Ok(Item::Nothing),
+            Item::Nothing => Ok(Item::Nothing),
+        },
+        Item::Text(_) => Ok(Item::Nothing),
+        Item::Truth(_) => Ok(Item::Nothing),
+        Item::Nothing => Ok(Item::Nothing),
+    }
+}
+
+fn compared<'a>(op: CompareOp, a: Item<'a>, b: Item<'a>) -> Result<Item<'a>, EvalFault>
+    ensures { outcome_in result ≡ compared op (item_in a.entry) (item_in b.entry) }
+{
+    match a {
+        Item::Number(x) => match b {
+            Item::Number(y) => Ok(Item::Truth(holds(op, x.cmp(&y)))),
+            Item::Text(_) => Ok(Item::Nothing),
+            Item::Truth(_) => Ok(Item::Nothing),
+            Item::Nothing => Ok(Item::Nothing),
+        },
+        Item::Text(x) => match b {
+            Item::Number(_) => Ok(Item::Nothing),
+            Item::Text(y) => Ok(Item::Truth(holds(op, compare_texts(x, y)))),
+            Item::Truth(_) => Ok(Item::Nothing),
+            Item::Nothing => Ok(Item::Nothing),
+        },
+        Item::Truth(_) => Ok(Item::Nothing),
+        Item::Nothing => Ok(Item::Nothing),
+    }
+}
+
+fn column_value<'a>(row: &'a [Value], column: u8) -> Item<'a>
+    ensures { Ok (item_in result) ≡ column_item (slice_get row.now column) }
+{
+    match row.get(column as usize) {
+        Some(Value::Int(number)) => Item::Number(*number),
+        Some(Value::Text(text)) => Item::Text(text.bytes()),
+        None => Item::Nothing,
+    }
+}
+
+/// The value of the expression on the row, or its fault. Operands are evaluated from left to right; AND stops at a
+/// false left side, OR at a true one.
+pub fn value<'a>(expr: &'a Expr, row: &'a [Value]) -> Result<Item<'a>, EvalFault>
+    ensures { outcome_in result ≡ val expr.now row.now }
+{
+    match expr {
+        Expr::Number(number) => Ok(Item::Number(*number)),
+        Expr::Text(text) => Ok(Item::Text(text.bytes())),
+        Expr::Column(column) => Ok(column_value(row, *column)),
+        Expr::Arith(op, a, b) => {
+            let left = value(a.get(), row)?;
+            let right = value(b.get(), row)?;
+            calculated(*op, left, right)
+        }
+        Expr::Compare(op, a, b) => {
+            let left = value(a.get(), row)?;
+            let right = value(b.get(), row)?;
+            compared(*op, left, right)
+        }
+        Expr::And(a, b) => match value(a.get(), row)? {
+            Item::Truth(true) => value(b.get(), row),
+            Item::Truth(false) => Ok(Item::Truth(false)),
+            Item::Number(_) => Ok(Item::Nothing),
+            Item::Text(_) => Ok(Item::Nothing),
+            Item::Nothing => Ok(Item::Nothing),
+        },
+        Expr::Or(a, b) => match value(a.get(), row)? {
+            Item::Truth(false) => value(b.get(), row),
+            Item::Truth(true) => Ok(Item::Truth(true)),
+            Item::Number(_) => Ok(Item::Nothing),
+            Item::Text(_) => Ok(Item::Nothing),
+            Item::Nothing => Ok(Item::Nothing),
+        },
+        Expr::Not(a) => match value(a.get(), row)? {
+            Item::Truth(truth) => Ok(Item::Truth(!truth)),
+            Item::Number(_) => Ok(Item::Nothing),
+            Item::Text(_) => Ok(Item::Nothing),
+            Item::Nothing => Ok(Item::Nothing),
+        },
+    }
+}
+
+/// Whether the predicate is true on the row, or its fault. An absent one is true.
+pub fn truth(filter: &Option<Expr>, row: &[Value]) -> Result<bool, EvalFault>
+    ensures { result ≡ truth_of (filter_val filter.now row.now) }
+{
+    match filter {
+        None => Ok(true),
+        Some(expr) => match value(expr, row)? {
+            Item::Truth(truth) => Ok(truth),
+            Item::Number(_) => Ok(false),
+            Item::Text(_) => Ok(false),
+            Item::Nothing => Ok(false),
+        },
+    }
+}

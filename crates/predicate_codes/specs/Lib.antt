@@ -1,0 +1,3 @@
+pub mod Decoding
+pub mod SetLists
+pub mod Laws

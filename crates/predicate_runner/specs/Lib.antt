@@ -1,0 +1,5 @@
+pub mod Outlines
+pub mod Texts
+pub mod Stepping
+pub mod Running
+pub mod Items

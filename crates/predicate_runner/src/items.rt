@@ -1,0 +1,15 @@
+//! What an expression gives on a row.
+
+/// What an expression gives.
+#[derive(Clone, Copy, Debug)]
+pub enum Item<'a> {
+    Number(i64),
+    Text(&'a [u8]),
+    Truth(bool),
+}
+
+impl<'a> Default for Item<'a> {
+    fn default() -> Item<'a> {
+        Item::Truth(false)
+    }
+}

@@ -1,0 +1,16 @@
+//! Codes of expressions at work: compiled, verified and run.
+#![tactic(auto)]
+
+mod compiling;
+mod items;
+mod kinds;
+mod running;
+mod steps;
+mod verifying;
+
+pub use compiling::{append_counted, compile};
+pub use items::Item;
+pub use kinds::{ExprKind, kind_of};
+pub use running::run;
+pub use steps::{CodeFault, counted_in};
+pub use verifying::{Verified, verify};

@@ -1,0 +1,159 @@
+//! Bytes verified as the code of an expression.
+
+ghost use Rattle.std.specs.Prelude.{◌≡◌, ◌≢◌, ◌<◌, ◌≤◌, ◌-◌, length, Some, None, Err, IfOk};
+ghost use Rattle.sql_base.specs.Codes.{code_of};
+ghost use Rattle.sql_base.specs.Kinds.{Kind, IsExpr};
+ghost use Rattle.sql_base.specs.declared.expressions.Expr.{Expr};
+ghost use Rattle.predicate_runner.specs.Outlines.{kind_in, outline_in, outlined};
+ghost use Rattle.predicate_runner.specs.Stepping.{Steps, stepped};
+
+use crate::kinds::{ExprKind, Shape, fit, of_truths};
+use crate::steps::{
+    CodeFault, counted_in, pop, push, step_arith, step_column, step_compare, step_not, step_number,
+    step_text,
+};
+use predicate_codes::{Opcode, opcode_of};
+use sql_base::{Code, TableDef};
+use std::alloc::Global;
+use std::marker::Model;
+
+// AND and OR. The right code is judged by itself.
+#[cycle(judging)]
+fn step_right(
+    alloc: Global,
+    behind: &[u8],
+    table: &TableDef,
+    room: u32,
+    stack: &mut Vec<Shape>,
+) -> Result<usize, CodeFault>
+    requires { 0 < room }
+    ensures ok { IfOk result (λ skip. Steps table.now room Opcode.DoAnd behind.now stack.old.items stack.new.items skip) }
+    ensures bad { result ≡ Err CodeFault.BadCode → stepped table.now room Opcode.DoAnd behind.now stack.old.items ≡ None }
+{
+    let Some(a) = pop(stack) else {
+        return Err(CodeFault::BadCode);
+    };
+    let Some(right) = counted_in(behind) else {
+        return Err(CodeFault::BadCode);
+    };
+    let b = outlined(alloc, right, table, room - 1)?;
+    push(
+        stack,
+        fit(
+            of_truths(Some(a.kind), Some(b.kind)),
+            a.depth.max(b.depth),
+            room,
+        ),
+    )?;
+    Ok(right.len() + 2)
+}
+
+#[cycle(judging)]
+fn step(
+    alloc: Global,
+    op: Opcode,
+    behind: &[u8],
+    table: &TableDef,
+    room: u32,
+    stack: &mut Vec<Shape>,
+) -> Result<usize, CodeFault>
+    requires { 0 < room }
+    ensures ok { IfOk result (λ skip. Steps table.now room op behind.now stack.old.items stack.new.items skip) }
+    ensures bad { result ≡ Err CodeFault.BadCode → stepped table.now room op behind.now stack.old.items ≡ None }
+{
+    match op {
+        Opcode::PushNumber => step_number(behind, table, room, stack),
+        Opcode::PushText => step_text(behind, table, room, stack),
+        Opcode::PushColumn => step_column(behind, table, room, stack),
+        Opcode::DoArith(op) => step_arith(op, behind, table, room, stack),
+        Opcode::DoCompare(op) => step_compare(op, behind, table, room, stack),
+        Opcode::DoAnd => step_right(alloc, behind, table, room, stack),
+        Opcode::DoOr => step_right(alloc, behind, table, room, stack),
+        Opcode::DoNot => step_not(behind, table, room, stack),
+    }
+}
+
+// The kind and depth of the expression whose code the bytes are, at most as deep as there is room.
+#[cycle(judging)]
+fn outlined(alloc: Global, code: &[u8], table: &TableDef, room: u32) -> Result<Shape, CodeFault>
+    ensures ok { IfOk result (λ s. outlined table.now room code.now ≡ Some (outline_in s)) }
+    ensures bad { result ≡ Err CodeFault.BadCode → outlined table.now room code.now ≡ None }
+{
+    if room == 0 {
+        return Err(CodeFault::BadCode);
+    }
+    let mut stack = Vec::new(alloc);
+    let mut rest = code;
+    while let Some((byte, behind)) = rest.split_first() {
+        let Some(op) = opcode_of(*byte) else {
+            return Err(CodeFault::BadCode);
+        };
+        let skip = step(alloc, op, behind, table, room, &mut stack)?;
+        rest = &behind[skip..];
+    }
+    let Some(last) = pop(&mut stack) else {
+        return Err(CodeFault::BadCode);
+    };
+    if stack.is_empty() {
+        Ok(last)
+    } else {
+        Err(CodeFault::BadCode)
+    }
+}
+
+/// The verified code of an expression, which contracts see as that expression with its kind.
+#[derive(Debug, Drop)]
+pub struct Verified {
+    code: Code,
+    kind: ExprKind,
+}
+
+impl Model for Verified {
+    ghost use Rattle.std.specs.Prelude.{◌≡◌};
+    ghost use Rattle.sql_base.specs.Codes.{code_of};
+    ghost use Rattle.predicate_runner.specs.Outlines.{Checked, kind_in, tree_in};
+    ghost use Rattle.sql_base.specs.contracts.expressions.Expr as e;
+    ghost use Rattle.std.specs.Coded.{codes};
+
+    ghost Value = { Checked };
+
+    ghost coded = { Prim.hlevel (codes, e.the_row.coded) };
+
+    ghost view = { λ v. record { tree = tree_in v.code; kind = kind_in v.kind } };
+
+    ghost invariant = { λ v. v.code ≡ code_of (tree_in v.code) };
+}
+
+impl Verified {
+    pub fn kind(&self) -> ExprKind
+        ensures { kind_in result ≡ self.now.kind }
+    {
+        self.kind
+    }
+
+    pub fn code(&self) -> &[u8]
+        ensures { result.now ≡ code_of self.now.tree }
+    {
+        self.code.bytes()
+    }
+}
+
+/// The bytes as the code of an expression, exactly where they are the code of a well-typed one within the limits.
+pub fn verify(alloc: Global, code: &[u8], table: &TableDef) -> Result<Verified, CodeFault>
+    ensures verified { IfOk result (λ v. IsExpr table.now v.kind v.tree × (code.now ≡ code_of v.tree)) }
+    ensures bad_code { result ≡ Err CodeFault.BadCode → (kind : Kind) (e : Expr) → IsExpr table.now kind e → code.now ≢ code_of e }
+{
+    if code.len() > 8192 {
+        return Err(CodeFault::BadCode);
+    }
+    match outlined(alloc, code, table, 32) {
+        Ok(shape) => match code.to_vec(alloc) {
+            Ok(bytes) => Ok(Verified {
+                code: Code::from_vec(bytes),
+                kind: shape.kind,
+            }),
+            Err(_) => Err(CodeFault::NoMemory),
+        },
+        Err(fault) => Err(fault),
+    }
+}

@@ -1,0 +1,4 @@
+pub mod LogLists
+pub mod Readings
+pub mod ScanReadings
+mod WorkedRows

@@ -1,0 +1,32 @@
+-- Logs joined end to end, and lists of one thing.
+use Rattle.std.proofs.Common.{◌≡◌, ℕ, ◌+◌, List, [], ◌∷◌, ◌++◌, Option, Some, None, refl, sym, subst, inl, inr}
+use Rattle.std.proofs.lemmas.List.{append-nil}
+use Rattle.sql_base.specs.declared.outcomes.Abort.{Abort}
+use Rattle.session_grammar.specs.declared.logs.LogEntry.{LogEntry}
+use Rattle.session_grammar.specs.declared.logs.LogEntry.TheVariants.{Asked, Drew}
+use Rattle.session_grammar.specs.Follows.{CountSyncs, InTurn, joined}
+use Rattle.session_grammar.specs.Sessions.{sync_behind}
+
+pub CountSyncs-append : (next : ℕ) (xs ys : List LogEntry) → CountSyncs next xs → CountSyncs (sync_behind next xs) ys → CountSyncs next (xs ++ ys)
+CountSyncs-append next [] ys a b = b
+CountSyncs-append next (Asked p s q l w ∷ xs) ys a b = (a.0, CountSyncs-append (next + 1) xs ys a.1 b)
+CountSyncs-append next (Drew n f w ∷ xs) ys a b = CountSyncs-append next xs ys a b
+
+pub sync_behind-append : (next : ℕ) (xs ys : List LogEntry) → sync_behind next (xs ++ ys) ≡ sync_behind (sync_behind next xs) ys
+sync_behind-append next [] ys = refl
+sync_behind-append next (Asked p s q l w ∷ xs) ys = sync_behind-append (next + 1) xs ys
+sync_behind-append next (Drew n f w ∷ xs) ys = sync_behind-append next xs ys
+
+module _ {A : Type 0} (R : A → List LogEntry → Option Abort → Type 0) (x : A) where
+  -- in turn over one thing is one list of it
+  pub one_of : (lists : List (List LogEntry)) (end : Option Abort) → InTurn R (x ∷ []) lists end → (list : List LogEntry) × (lists ≡ list ∷ []) × R x list end
+  one_of [] end h = absurd h
+  one_of (list ∷ []) end h = (list, refl, elim h [ inl p ↦ subst (R x list) (sym p.1) p.0 | inr p ↦ p.0 ])
+  one_of (list ∷ more ∷ lists) end h = elim h [ inl p ↦ absurd p.1 | inr p ↦ absurd (cc p.2) ]
+
+  pub one_to : (list : List LogEntry) (end : Option Abort) → R x list end → InTurn R (x ∷ []) (list ∷ []) end
+  one_to list None h = inl (h, refl)
+  one_to list (Some abort) h = inr (h, search, refl)
+
+pub joined-one : (list : List LogEntry) → joined (list ∷ []) ≡ list
+joined-one list = append-nil list

@@ -1,0 +1,6 @@
+//! The logs that a session may have: its actions, what came of them, and the grammar of both.
+#![tactic(auto)]
+
+mod logs;
+
+pub use logs::{Action, Answer, LogEntry};

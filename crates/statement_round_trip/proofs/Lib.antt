@@ -1,0 +1,11 @@
+pub mod Described
+pub mod Ends
+pub mod Leaves
+pub mod Naming
+pub mod Operands
+pub mod Padding
+pub mod Spelling
+pub mod Steps
+pub mod Summaries
+pub mod Typed
+pub mod Wholes

@@ -1,0 +1,18 @@
+pub mod AllParts
+mod Demands
+mod Differing
+mod ExpressionParts
+mod ExpressionSteps
+mod FirstSteps
+mod Listing
+mod LoadSteps
+mod PartContracts
+mod RowSteps
+mod SessionParts
+mod SessionSteps
+mod StatementSteps
+mod States
+mod Stays
+mod TableParts
+mod TableSteps
+mod WholeSteps
