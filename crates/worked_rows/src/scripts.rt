@@ -39,15 +39,15 @@ fn table(alloc: Global) -> Result<TableDef, NoMemory> {
 /// Five rows of that table.
 fn load(alloc: Global) -> Result<Load, NoMemory> {
     let mut rows = List::new(alloc);
-    for number in [1, 2, 3, 4, 5] {
-        rows.push(row(alloc, number)?)?;
+    for (key, value) in [(1, 10), (2, 20), (3, 30), (4, 40), (5, 50)] {
+        rows.push(row(alloc, key, value)?)?;
     }
     Ok(Load { table: 0, rows })
 }
 
-fn row(alloc: Global, number: i64) -> Result<Row, NoMemory> {
-    let mut values = list(alloc, Value::Int(number))?;
-    values.push(Value::Int(number * 10))?;
+fn row(alloc: Global, key: i64, value: i64) -> Result<Row, NoMemory> {
+    let mut values = list(alloc, Value::Int(key))?;
+    values.push(Value::Int(value))?;
     Ok(Row::from_values(values))
 }
 
