@@ -1,7 +1,7 @@
 -- A partition that one transaction alone reads, request by request.
-use Rattle.std.proofs.Common.{◌≡◌, ◌<◌, ◌≤◌, ◌⊎◌, inl, inr, ℕ, List, [], ◌∷◌, ◌++◌, length, Some, false, refl, ap, sym, ◌∙◌, subst, arith}
+use Rattle.std.proofs.Common.{◌≡◌, ◌<◌, ◌≤◌, ◌⊎◌, inl, inr, ◌-◌, ℕ, zero, suc, List, [], ◌∷◌, ◌++◌, length, Option, Some, None, false, refl, ap, sym, ◌∙◌, subst, arith}
 use Rattle.std.proofs.lemmas.List.{take-append-le, take_all, length_push}
-use Rattle.std.specs.Prelude.{flat_map}
+use Rattle.std.specs.Prelude.{flat_map, slice_get, slice_set, unwrap_or}
 use Rattle.std.proofs.lemmas.Bool.{cases_lt}
 use Rattle.sql_base.specs.Scripts.{Lies}
 use Rattle.sql_base.specs.declared.key_ranges.Start.{Start}
@@ -17,7 +17,7 @@ use Rattle.dp_messages.specs.declared.requests.Ask.TheVariants.{Continue, Prepar
 use Rattle.dp_messages.specs.declared.requests.Request.{Request}
 use Rattle.partition_core.specs.Alone.{Reader, Phase, Fresh, Partway, Whole, Ready, Over, ReadBy, Suits, Shows, AsksOn, ReadOn, by_reader, begin_ask, rows_between}
 use Rattle.partition_state.specs.History.{replay, before}
-use Rattle.partition_core.specs.Kept.{Kept, served, opener_in, entry_of}
+use Rattle.partition_core.specs.Kept.{Kept, entry_of, marked, opener_in, served}
 use Rattle.partition_state.specs.State.{State, Opener, opener_of, opening}
 use Rattle.partition_state.specs.Step.{step, Stepped, Answered, answered}
 use Rattle.partition_state.specs.declared.entries.Entry.{Entry}
@@ -94,11 +94,20 @@ still_at p0 h e so_far now i (inr within) = ap (λ es. (replay p0 es).cells) (ta
 pub still-push : (p0 : State) (h : List Entry) (e : Entry) → ((i : ℕ) → (before p0 h i).cells ≡ p0.cells) → (replay p0 (h ++ e ∷ [])).cells ≡ p0.cells → (i : ℕ) → (before p0 (h ++ e ∷ []) i).cells ≡ p0.cells
 still-push p0 h e so_far now i = still_at p0 h e so_far now i (cases_lt (length h) i)
 
+-- what was unmarked stays so
+pub unmarked : (marks : List (Option ℕ)) (i : ℕ) → unwrap_or (slice_get (slice_set marks i None) i) None ≡ None
+unmarked [] i = refl
+unmarked (m ∷ marks) zero = refl
+unmarked (m ∷ marks) (suc i) = unmarked marks i
+
 -- a request with a new sync is kept with its reply
-pub kept_reply : (k : Kept) (opener sync : ℕ) (request : Request) → Lies 1 8 opener → length k.now.openers ≡ 8 → (opener_in k opener).last < sync → let o = opener_in (served k opener sync request) opener in (o.last ≡ sync) × (o.kept ≡ Some (entry_of k.now opener sync request).reply)
+pub kept_reply : (k : Kept) (opener sync : ℕ) (request : Request) → Lies 1 8 opener → length k.now.openers ≡ 8 → (opener_of k.now opener).last < sync
+    → let o = opener_in (served k opener sync request) opener in (o.last ≡ sync) × (o.starved ≡ false) × (o.kept ≡ Some (entry_of k.now opener sync request).reply)
 kept_reply k opener sync request lies eight fresh =
     let a : Answered = answered k.now (record { session = opener; ordinal = request.ordinal }) request.ask in
     let told : opener_of (step k.now opener sync request).state opener ≡ record (opener_of a.state opener) { last = sync; starved = false; kept = Some a.reply } =
     ap (λ (s : Stepped). opener_of s.state opener) (step-new k.now opener sync request fresh)
     ∙ opener_of-with a.state opener (record (opener_of a.state opener) { last = sync; starved = false; kept = Some a.reply }) lies (counts-answered k.now _ request.ask ∙ eight) in
-    (ap (λ (o : Opener). o.last) told, ap (λ (o : Opener). o.kept) told)
+    let o : opener_in (served k opener sync request) opener ≡ record (opener_of a.state opener) { last = sync; starved = false; kept = Some a.reply } =
+    ap (λ m. marked m (opener_of (step k.now opener sync request).state opener)) (unmarked k.marks (opener - 1)) ∙ told in
+    (ap (λ (o : Opener). o.last) o, ap (λ (o : Opener). o.starved) o, ap (λ (o : Opener). o.kept) o)

@@ -4,7 +4,9 @@ use Rattle.std.specs.Prelude.{nat_le, max}
 use Rattle.std.proofs.lemmas.Bool.Decides.{nat_tests}
 use Rattle.std.proofs.lemmas.List.{length-set}
 use Rattle.sql_base.specs.declared.lock_names.TxnName.{TxnName}
-use Rattle.key_sequenced.specs.Cells.{settled}
+use Rattle.key_sequenced.specs.Cells.{ending, settled}
+use Rattle.key_sequenced.specs.declared.Cell.{Cell}
+use Rattle.std.specs.List.{AllByRecursion, cons_option}
 use Rattle.dp_messages.specs.declared.replies.Reply.TheVariants.{Done, Floor, NotKnown, StampLow}
 use Rattle.dp_messages.specs.declared.requests.Ask.TheVariants.{Prepare, EndCommit}
 use Rattle.partition_core.specs.Alone.{Reader, Whole, Ready, Over, ReadBy, Suits}
@@ -13,7 +15,11 @@ use Rattle.partition_state.specs.Step.{Answered, answered, refused, prepared, pr
 use Rattle.partition_state.specs.declared.lives.Live.{Live}
 use Rattle.partition_core.proofs.AloneOpeners.{opener_of-with}
 use Rattle.partition_core.proofs.AloneSteps.{Leaves, stands, not_ended, same_txn-itself, own_live, live-own, floor-own, answered-own}
-use Rattle.partition_core.proofs.Serving.{settled-same}
+
+settled-same : (t : TxnName) (cells : List Cell) → AllByRecursion (λ cell. cell.writer ≡ None) cells → settled t cells ≡ cells
+settled-same t [] h = refl
+settled-same t (cell ∷ cells) h =
+    ap (λ w. cons_option (ending t (λ c. c.now) cell w) (settled t cells)) h.0 ∙ ap (λ cs. cell ∷ cs) (settled-same t cells h.1)
 
 -- the only live transaction, prepared
 prepared-own : (t : TxnName) → map (prepared t 0) (own_live t None ∷ []) ≡ own_live t (Some 0) ∷ []

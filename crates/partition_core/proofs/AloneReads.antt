@@ -27,7 +27,7 @@ use Rattle.quantum_core.proofs.Windows.{in_window, window, rows_in}
 use Rattle.dp_messages.specs.declared.replies.Reply.TheVariants.{AfterEnd, BadShape, WrongKey}
 use Rattle.dp_messages.specs.declared.requests.Ask.TheVariants.{Continue}
 use Rattle.partition_core.specs.Alone.{Reader, Phase, Fresh, Partway, Whole, ReadBy, Suits, Shows, rows_between, granule_lock, own_block, begin_ask}
-use Rattle.partition_core.specs.Contents.{reading}
+use Rattle.partition_core.specs.Alone.{reading}
 use Rattle.partition_state.specs.State.{State, Opener, opener_of, with_live}
 use Rattle.partition_state.specs.Step.{Answered, answered, refused, unless_other, other_live, begin_with, after_first, after_next, goes_on, is_shaped, are_columns_here}
 use Rattle.partition_core.proofs.AloneSteps.{Leaves, stands, not_ended, same_txn-itself, answered-own}

@@ -22,7 +22,7 @@ use Rattle.quantum_core.specs.declared.verdicts.Effect.TheVariants.{Gives, Becom
 use Rattle.quantum_core.specs.declared.verdicts.Verdict.{Verdict}
 use Rattle.quantum_core.specs.declared.verdicts.Verdict.TheVariants.{Blocked, Faulty, PassedOver, Selected}
 use Rattle.quantum_core.proofs.ReadOnly.{changes-verdict}
-use Rattle.partition_core.specs.Contents.{HasRow, reading}
+use Rattle.partition_core.specs.Alone.{HasRow, reading}
 
 abbrev IsStill : Judged → Type 0
 IsStill j = changes j.verdict ≡ false

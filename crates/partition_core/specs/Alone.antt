@@ -11,6 +11,7 @@ use Rattle.sql_base.specs.declared.lock_names.Access.TheVariants.{Repeatable}
 use Rattle.sql_base.specs.declared.lock_names.Lock.{Lock}
 use Rattle.sql_base.specs.declared.lock_names.Mode.TheVariants.{S}
 use Rattle.sql_base.specs.declared.lock_names.TxnName.{TxnName}
+use Rattle.sql_base.specs.declared.values.Value.{Value}
 use Rattle.key_sequenced.specs.Cells.{AreCells, records}
 use Rattle.key_sequenced.specs.declared.Cell.{Cell}
 use Rattle.subset_blocks.specs.declared.Numbered.{Numbered}
@@ -21,11 +22,19 @@ use Rattle.dp_messages.specs.declared.replies.Reply.TheVariants.{Ended, Redrive}
 use Rattle.dp_messages.specs.declared.requests.Ask.{Ask}
 use Rattle.dp_messages.specs.declared.requests.Ask.TheVariants.{BeginRead, Continue}
 use Rattle.dp_messages.specs.declared.requests.Request.{Request}
-use Rattle.partition_core.specs.Contents.{reading}
+use Rattle.quantum_core.specs.declared.works.Doing.TheVariants.{Read}
 use Rattle.partition_state.specs.State.{State, opener_of}
 use Rattle.partition_state.specs.Step.{are_columns_here, is_shaped}
 use Rattle.partition_state.specs.declared.entries.Entry.{Entry}
 use Rattle.partition_state.specs.declared.lives.Live.{Live}
+
+-- reads the named columns of all records
+abbrev pub reading : List ℕ → SetWork
+reading columns = record { filter = None; doing = Read columns }
+
+-- the row of a cell has all columns of the table
+abbrev pub HasRow : ℕ → Cell → Type 0
+HasRow columns cell = (row : List Value) → cell.now ≡ Some row → length row ≡ columns
 
 -- the transaction, the granule that it locks, and what it reads
 pub record Reader : Type 0 where

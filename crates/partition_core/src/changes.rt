@@ -1,39 +1,50 @@
 //! What a request changes, once its reply is known.
-ghost use Rattle.std.specs.Prelude.{◌≡◌, ◌<◌, vec_len, vec_capacity};
+ghost use Rattle.std.specs.Prelude.{◌≡◌, ◌<◌, length, slice_set, vec_len, vec_capacity};
 ghost use Rattle.sql_base.specs.Scripts.{Lies};
 ghost use Rattle.subset_blocks.specs.Blocks.{NumbersDiffer};
 ghost use Rattle.partition_core.specs.Contents.{parts_of, HasRoom};
-ghost use Rattle.partition_core.specs.Changes.{changed, locks_with, blocks_with};
+ghost use Rattle.partition_core.specs.Changes.{blocks_with, changed, ended_parts, locks_with, plans_in};
 
 use crate::contents::Contents;
 use crate::lives::{dismiss, enlist, set_floor};
-use crate::locks::{grant, release};
 use dp_messages::Reply;
-use quantum_core::SetWork;
-use sql_base::{Key, Lock, TxnName};
+use lock_tables::LockTable;
+use quantum_runner::{Planned, Work, carry_out};
+use sql_base::{Key, List, Lock, Row, TxnName};
 use subset_blocks::{Numbered, advance, close, close_of};
 
 /// What changes with the reply to a request of a transaction.
 #[derive(Debug, Drop)]
 pub enum Change {
     Stays,
-    /// The transaction is live, with a granule locked and a subset under way.
+    /// The transaction is live, with changes made, a granule locked and a subset under way.
     Begins {
+        plans: List<Planned>,
         granule: Option<Lock>,
-        opened: Option<Numbered<SetWork>>,
+        opened: Option<Numbered<Work>>,
     },
-    /// The subset goes on after the key.
+    /// Changes are made, and the subset goes on after the key.
     Advances {
+        plans: List<Planned>,
         subset: u32,
         last: Key,
     },
+    /// Changes are made, and the subset is at its end.
     Closes {
+        plans: List<Planned>,
         subset: u32,
+    },
+    /// The transaction is live, with a record more and the lock on its key.
+    Inserts {
+        key: Key,
+        row: Row,
+        lock: Lock,
     },
     Prepares,
     Commits {
         stamp: u64,
     },
+    Undoes,
 }
 
 /// The reply to a request, and what changes with it.
@@ -53,26 +64,75 @@ pub fn refusal(reply: Reply) -> Judgement
     }
 }
 
+/// How many records a change rewrites.
+pub fn count_plans(change: &Change) -> usize
+    ensures { result ≡ length (plans_in change.now) }
+{
+    match change {
+        Change::Stays => 0,
+        Change::Begins {
+            plans,
+            granule: _,
+            opened: _,
+        } => plans.items().len(),
+        Change::Advances {
+            plans,
+            subset: _,
+            last: _,
+        } => plans.items().len(),
+        Change::Closes { plans, subset: _ } => plans.items().len(),
+        Change::Inserts {
+            key: _,
+            row: _,
+            lock: _,
+        } => 0,
+        Change::Prepares => 0,
+        Change::Commits { stamp: _ } => 0,
+        Change::Undoes => 0,
+    }
+}
+
 impl Contents {
     /// Makes the change, for which there is room.
     pub fn apply(&mut self, t: TxnName, change: Change)
         requires opener { Lies 1 8 t.session }
         requires numbers { NumbersDiffer self.old.blocks.items }
-        requires room { HasRoom self.old }
+        requires room { HasRoom (length (plans_in change)) self.old }
         ensures state { parts_of self.new ≡ changed (parts_of self.old) t change }
         ensures room { vec_len self.new.history < vec_capacity self.new.history }
     {
         match change {
             Change::Stays => {}
-            Change::Begins { granule, opened } => {
+            Change::Begins {
+                plans,
+                granule,
+                opened,
+            } => {
                 enlist(&mut self.lives, t);
-                add_lock(&mut self.locks, granule);
+                carry_out(&mut self.store, plans);
+                add_lock(&mut self.store.locks, granule);
                 add_block(&mut self.blocks, opened);
             }
-            Change::Advances { subset, last } => advance(&mut self.blocks, subset, last),
-            Change::Closes { subset } => close(&mut self.blocks, subset),
+            Change::Advances {
+                plans,
+                subset,
+                last,
+            } => {
+                carry_out(&mut self.store, plans);
+                advance(&mut self.blocks, subset, last);
+            }
+            Change::Closes { plans, subset } => {
+                carry_out(&mut self.store, plans);
+                close(&mut self.blocks, subset);
+            }
+            Change::Inserts { key, row, lock } => {
+                enlist(&mut self.lives, t);
+                self.store.file.put(key, row, t);
+                self.store.locks.admit(lock);
+            }
             Change::Prepares => set_floor(&mut self.lives, t, self.high),
             Change::Commits { stamp } => self.commit(t, stamp),
+            Change::Undoes => self.undo(t),
         }
     }
 
@@ -81,25 +141,44 @@ impl Contents {
         ensures state { parts_of self.new ≡ changed (parts_of self.old) t (Change.Commits stamp) }
         ensures history { self.new.history ≡ self.old.history }
     {
-        release(&mut self.locks, t);
+        self.store.file.settle(t);
+        self.end(t);
+        self.high = self.high.max(stamp);
+    }
+
+    fn undo(&mut self, t: TxnName)
+        requires opener { Lies 1 8 t.session }
+        ensures state { parts_of self.new ≡ changed (parts_of self.old) t Change.Undoes }
+        ensures history { self.new.history ≡ self.old.history }
+    {
+        self.store.file.restore(t);
+        self.end(t);
+    }
+
+    /// Locks and subsets of the transaction go, and its ordinal is the last ended.
+    fn end(&mut self, t: TxnName)
+        requires opener { Lies 1 8 t.session }
+        ensures state { parts_of self.new ≡ ended_parts (parts_of self.old) t (parts_of self.old).cells }
+        ensures history { self.new.history ≡ self.old.history }
+    {
+        self.store.locks.release_all(t);
         close_of(&mut self.blocks, t);
         dismiss(&mut self.lives, t);
-        self.seats[t.session as usize - 1].ended = t.ordinal;
-        self.high = self.high.max(stamp);
+        self.ended[t.session as usize - 1] = t.ordinal;
     }
 }
 
-fn add_lock(locks: &mut Vec<Lock>, lock: Option<Lock>)
-    requires { vec_len locks.old < vec_capacity locks.old }
-    ensures { locks.new.items ≡ locks_with lock locks.old.items }
+fn add_lock(locks: &mut LockTable, lock: Option<Lock>)
+    requires { 0 < locks.old.spare }
+    ensures { locks.new.locks ≡ locks_with lock locks.old.locks }
 {
     match lock {
-        Some(lock) => grant(locks, lock),
+        Some(lock) => locks.admit(lock),
         None => {}
     }
 }
 
-fn add_block(blocks: &mut Vec<Numbered<SetWork>>, block: Option<Numbered<SetWork>>)
+fn add_block(blocks: &mut Vec<Numbered<Work>>, block: Option<Numbered<Work>>)
     requires { vec_len blocks.old < vec_capacity blocks.old }
     ensures { blocks.new.items ≡ blocks_with block blocks.old.items }
 {

@@ -1,33 +1,30 @@
 //! What a partition keeps.
-use key_sequenced::Cell;
 use partition_state::{Entry, Live};
-use quantum_core::SetWork;
-use sql_base::{Limits, Lock, TableDef};
+use quantum_runner::{CheckedTable, Store, Work};
+use sql_base::{ColumnKind, Key, Limits, List, Row};
 use subset_blocks::Numbered;
+use sync_messages::Openers;
 
-/// What is kept of an opener. Syncs and ordinals count from 1.
-#[derive(Clone, Copy, Debug)]
-pub struct Seat {
-    /// The opener's last sync.
-    pub last: u64,
-    /// The place of the opener's last entry in the history.
-    pub entry: Option<usize>,
-    /// The opener's last ended ordinal.
-    pub ended: u32,
-}
-
-/// What a partition keeps. The cells are those it opened with.
+/// What a partition keeps.
 #[derive(Debug, Drop)]
 pub struct Contents {
-    pub table: TableDef,
+    pub table: CheckedTable,
     pub place: u32,
     pub limits: Limits,
     /// How many bytes a key of the table has.
     pub width: usize,
-    pub cells: Vec<Cell>,
-    pub locks: Vec<Lock>,
-    pub blocks: Vec<Numbered<SetWork>>,
-    pub seats: [Seat; 8],
+    /// The kinds of the table's columns.
+    pub kinds: List<ColumnKind>,
+    /// The first keys of the table's partitions from the second on.
+    pub firsts: List<Key>,
+    /// The rows with which the partition opened.
+    pub rows: List<Row>,
+    pub store: Store,
+    pub blocks: Vec<Numbered<Work>>,
+    /// The syncs of each opener, with the place of its last entry in the history.
+    pub seats: Openers<usize>,
+    /// The last ended ordinal of each opener.
+    pub ended: [u32; 8],
     pub lives: Vec<Live>,
     /// The greatest stamp that ended here by commit.
     pub high: u64,

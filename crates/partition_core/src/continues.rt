@@ -2,19 +2,19 @@
 ghost use Rattle.std.specs.Prelude.{◌≡◌, IfOk};
 ghost use Rattle.sql_base.specs.Keys.{key_eq};
 ghost use Rattle.subset_blocks.specs.Blocks.{find_block};
-ghost use Rattle.sql_base.specs.declared.lock_names.TxnName.{TxnName};
-ghost use Rattle.partition_core.specs.Contents.{Parts, state_of, parts_of, AreStill, AreReads};
-ghost use Rattle.partition_core.specs.Changes.{tells, still_handled, IsFitting};
-ghost use Rattle.partition_state.specs.State.{State};
-ghost use Rattle.partition_state.specs.Step.{after_next, goes_on, kept_key};
+ghost use Rattle.partition_state.specs.Step.{goes_on, kept_key};
+ghost use Rattle.partition_core.specs.Changes.{tells, IsFitting};
+ghost use Rattle.partition_core.specs.Contents.{state_of, parts_of, IsServing};
+ghost use Rattle.partition_core.specs.Firsts.{next_change, next_reply};
 
 use crate::changes::{Change, Judgement, refusal};
 use crate::contents::Contents;
 use dp_messages::Reply;
-use quantum_core::{QuantumReply, SetWork, read_quantum};
+use quantum_core::QuantumReply;
+use quantum_runner::{Walk, walk};
 use sql_base::{Key, NoMemory, Start, TxnName};
 use std::alloc::Global;
-use subset_blocks::{Numbered, find_block};
+use subset_blocks::find_block;
 
 impl Contents {
     /// Goes on with a subset of the transaction just after its last key.
@@ -25,8 +25,7 @@ impl Contents {
         subset: u32,
         last: &Key,
     ) -> Result<Judgement, NoMemory>
-        requires still { AreStill (parts_of self.now) }
-        requires reads { AreReads (parts_of self.now) }
+        requires serving { IsServing (parts_of self.now) }
         ensures told { IfOk result (λ j. tells (state_of (parts_of self.now)) t j
             ≡ goes_on (state_of (parts_of self.now)) last.now (find_block subset t self.now.blocks.items)) }
         ensures fits { IfOk result (λ j. IsFitting (parts_of self.now) j.change) }
@@ -36,34 +35,30 @@ impl Contents {
         };
         let kept = kept_key(&numbered.block.start);
         if !is_key(kept, last) {
-            return Ok(refusal(wrong_key(alloc, kept)?));
+            return Ok(refusal(wrong_key(kept)?));
         }
-        let reply = read_quantum(
+        let walked = walk(
             alloc,
             self.limits,
             &self.table,
-            &self.cells,
-            &self.locks,
+            self.store.file.cells(),
+            &self.store.locks,
             &numbered.block,
         )?;
-        after_next(alloc, numbered, reply)
+        after_next(numbered.number, walked)
     }
 }
 
-/// What the reply of a block's next quantum comes to, at whatever partition it was read.
-fn after_next(
-    alloc: Global,
-    numbered: &Numbered<SetWork>,
-    reply: QuantumReply,
-) -> Result<Judgement, NoMemory>
-    ensures told { IfOk result (λ j. (p : State) (t : TxnName) → tells p t j ≡ after_next p numbered.now (still_handled p reply) reply) }
-    ensures fits { IfOk result (λ j. (q : Parts) → IsFitting q j.change) }
+/// What the walk of a block's next quantum comes to.
+fn after_next(subset: u32, walk: Walk) -> Result<Judgement, NoMemory>
+    ensures reply { IfOk result (λ j. j.reply ≡ next_reply subset walk.reply) }
+    ensures change { IfOk result (λ j. j.change ≡ next_change subset walk) }
 {
-    let subset = numbered.number;
+    let Walk { reply, plans } = walk;
     match reply {
         QuantumReply::Ended { rows, changed } => Ok(Judgement {
             reply: Reply::Ended { rows, changed },
-            change: Change::Closes { subset },
+            change: Change::Closes { plans, subset },
         }),
         QuantumReply::Redrive {
             last,
@@ -72,6 +67,7 @@ fn after_next(
             changed,
         } => {
             let change = Change::Advances {
+                plans,
                 subset,
                 last: last.clone()?,
             };
@@ -99,7 +95,7 @@ fn kept_key(start: &Start) -> &Key
     }
 }
 
-fn wrong_key(alloc: Global, kept: &Key) -> Result<Reply, NoMemory>
+fn wrong_key(kept: &Key) -> Result<Reply, NoMemory>
     ensures { IfOk result (λ reply. reply ≡ Reply.WrongKey kept.now) }
 {
     Ok(Reply::WrongKey {

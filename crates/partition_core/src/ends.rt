@@ -1,8 +1,8 @@
-//! Prepare, and the end by commit.
+//! Prepare, and the two ends.
 ghost use Rattle.std.specs.Prelude.{◌≡◌};
 ghost use Rattle.partition_core.specs.Contents.{state_of, parts_of};
 ghost use Rattle.partition_core.specs.Changes.{tells, IsFitting};
-ghost use Rattle.partition_state.specs.Step.{prepare, end_commit};
+ghost use Rattle.partition_state.specs.Step.{prepare, end_commit, end_undo};
 
 use crate::changes::{Change, Judgement, refusal};
 use crate::contents::Contents;
@@ -45,6 +45,17 @@ impl Contents {
         Judgement {
             reply: Reply::Done,
             change: Change::Commits { stamp },
+        }
+    }
+
+    /// Ends the transaction and gives back what it changed.
+    pub fn end_undo(&self, t: TxnName) -> Judgement
+        ensures told { tells (state_of (parts_of self.now)) t result ≡ end_undo (state_of (parts_of self.now)) t }
+        ensures fits { IsFitting (parts_of self.now) result.change }
+    {
+        Judgement {
+            reply: Reply::Done,
+            change: Change::Undoes,
         }
     }
 }

@@ -1,9 +1,8 @@
 //! What a request comes to, by the checks before the kinds and then by kind.
 ghost use Rattle.std.specs.Prelude.{◌≡◌, ◌<◌, ◌≤◌, IfOk, slice_index_or};
 ghost use Rattle.sql_base.specs.Scripts.{Lies};
-ghost use Rattle.partition_core.specs.Contents.{state_of, parts_of, AreStill, AreReads};
+ghost use Rattle.partition_core.specs.Contents.{state_of, parts_of, IsServing};
 ghost use Rattle.partition_core.specs.Changes.{tells, IsFitting};
-ghost use Rattle.partition_core.specs.Kept.{IsServed};
 ghost use Rattle.partition_state.specs.Step.{answered, by_kind, is_closing, unless_prepared};
 
 use crate::changes::{Judgement, refusal};
@@ -17,13 +16,11 @@ impl Contents {
     /// What a request of the transaction comes to. Nothing changes yet.
     pub fn judge(&self, alloc: Global, t: TxnName, ask: &Ask) -> Result<Judgement, NoMemory>
         requires opener { Lies 1 8 t.session }
-        requires served { IsServed ask.now }
-        requires still { AreStill (parts_of self.now) }
-        requires reads { AreReads (parts_of self.now) }
+        requires serving { IsServing (parts_of self.now) }
         ensures told { IfOk result (λ j. tells (state_of (parts_of self.now)) t j ≡ answered (state_of (parts_of self.now)) t ask.now) }
         ensures fits { IfOk result (λ j. IsFitting (parts_of self.now) j.change) }
     {
-        let ended = self.seats[t.session as usize - 1].ended;
+        let ended = self.ended[t.session as usize - 1];
         if t.ordinal <= ended {
             return Ok(refusal(Reply::AfterEnd { ended }));
         }
@@ -45,9 +42,7 @@ impl Contents {
         ask: &Ask,
         floor: u64,
     ) -> Result<Judgement, NoMemory>
-        requires served { IsServed ask.now }
-        requires still { AreStill (parts_of self.now) }
-        requires reads { AreReads (parts_of self.now) }
+        requires serving { IsServing (parts_of self.now) }
         ensures told { IfOk result (λ j. tells (state_of (parts_of self.now)) t j ≡ unless_prepared (state_of (parts_of self.now)) t ask.now (Some floor)) }
         ensures fits { IfOk result (λ j. IsFitting (parts_of self.now) j.change) }
     {
@@ -59,9 +54,7 @@ impl Contents {
     }
 
     fn judge_kind(&self, alloc: Global, t: TxnName, ask: &Ask) -> Result<Judgement, NoMemory>
-        requires served { IsServed ask.now }
-        requires still { AreStill (parts_of self.now) }
-        requires reads { AreReads (parts_of self.now) }
+        requires serving { IsServing (parts_of self.now) }
         ensures told { IfOk result (λ j. tells (state_of (parts_of self.now)) t j ≡ by_kind (state_of (parts_of self.now)) t ask.now) }
         ensures fits { IfOk result (λ j. IsFitting (parts_of self.now) j.change) }
     {
@@ -70,13 +63,34 @@ impl Contents {
                 access,
                 granule,
                 range,
-                filter: None,
+                filter,
                 columns,
-            } => self.begin_read(alloc, t, *access, granule, range, columns),
+            } => self.begin_read(alloc, t, *access, granule, range, filter, columns),
+            Ask::BeginUpdate {
+                access,
+                granule,
+                range,
+                filter,
+                sets,
+            } => self.begin_update(alloc, t, *access, granule, range, filter, sets),
+            Ask::BeginDelete {
+                access,
+                granule,
+                range,
+                filter,
+            } => self.begin_delete(alloc, t, *access, granule, range, filter),
             Ask::Continue { subset, last } => self.go_on(alloc, t, *subset, last),
+            Ask::ReadKey {
+                access,
+                key,
+                filter,
+                columns,
+            } => self.read_key(alloc, t, *access, key, filter, columns),
+            Ask::Insert { row } => self.insert(alloc, t, row),
+            Ask::LockGranule { prefix, mode } => self.lock_granule(alloc, t, prefix, *mode),
             Ask::Prepare => Ok(self.prepare(t)),
             Ask::EndCommit { stamp } => Ok(self.end_commit(t, *stamp)),
-            _ => unreachable!(),
+            Ask::EndUndo => Ok(self.end_undo(t)),
         }
     }
 }

@@ -3,12 +3,15 @@
 
 mod begins;
 mod changes;
+mod codes;
 mod contents;
 mod continues;
 mod ends;
+mod firsts;
+mod inserts;
 mod judges;
+mod keys;
 mod lives;
-mod locks;
 mod notes;
 mod openings;
 mod partitions;

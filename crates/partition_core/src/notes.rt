@@ -1,19 +1,32 @@
 //! One new request: judged, with all memory taken, before the first change.
-ghost use Rattle.std.specs.Prelude.{◌≡◌, ◌<◌, ◌++◌, ◌∷◌, [], IfOk, OnOk, OnErr, vec_len, vec_capacity};
+ghost use Rattle.std.specs.Prelude.{◌≡◌, ◌<◌, ◌≤◌, ◌++◌, ◌∷◌, [], length, IfOk, OnOk, OnErr, vec_len, vec_capacity};
 ghost use Rattle.sql_base.specs.Scripts.{Lies};
-ghost use Rattle.partition_core.specs.Contents.{parts_of, state_of, kept_of, IsServing, HasRoom};
+ghost use Rattle.sync_messages.specs.Openers.{IsArrival, seat_of};
+ghost use Rattle.partition_core.specs.Contents.{parts_of, kept_of, IsServing, HasRoom};
 ghost use Rattle.partition_core.specs.Changes.{noted_parts};
-ghost use Rattle.partition_core.specs.Kept.{IsServed, served};
-ghost use Rattle.partition_state.specs.State.{opener_of};
+ghost use Rattle.partition_core.specs.Kept.{served};
 
-use crate::changes::Judgement;
+use crate::changes::{Judgement, count_plans};
 use crate::contents::Contents;
 use dp_messages::Request;
 use partition_state::Entry;
 use sql_base::{NoMemory, TxnName};
 use std::alloc::Global;
+use sync_messages::Arrival;
 
 impl Contents {
+    /// What a message of an opener from 1 to 8 is.
+    pub fn arrive(&self, opener: u32, sync: u64) -> Arrival
+        requires opener { Lies 1 8 opener }
+        requires eight { length self.now.seats ≡ 8 }
+        ensures { IsArrival (seat_of self.now.seats opener) sync result }
+    {
+        match self.seats.arrive(opener, sync) {
+            Ok(arrival) => arrival,
+            Err(_) => unreachable!(),
+        }
+    }
+
     /// Serves a request with a new sync. For want of memory nothing changes.
     pub fn serve_new(
         &mut self,
@@ -23,8 +36,7 @@ impl Contents {
         request: &Request,
     ) -> Result<(), NoMemory>
         requires opener { Lies 1 8 opener }
-        requires fresh { (opener_of (state_of (parts_of self.old)) opener).last < sync }
-        requires served { IsServed request.now.ask }
+        requires fresh { (seat_of self.old.seats opener).last < sync }
         requires serving { IsServing (parts_of self.old) }
         ensures ok { OnOk result (kept_of (parts_of self.new) ≡ served (kept_of (parts_of self.old)) opener sync request.now) }
         ensures err { OnErr result (parts_of self.new ≡ parts_of self.old) }
@@ -36,8 +48,8 @@ impl Contents {
         };
         let judged = self.judge(alloc, t, &request.ask)?;
         let kept = copy_of(request)?;
-        self.reserve()?;
         let Judgement { reply, change } = judged;
+        self.reserve(count_plans(&change) as u32)?;
         self.apply(t, change);
         self.note(Entry {
             opener,
@@ -48,28 +60,30 @@ impl Contents {
         Ok(())
     }
 
-    /// Takes the room that one more request may need.
-    fn reserve(&mut self) -> Result<(), NoMemory>
+    /// Takes the room that one more request may need, with so many changes of records.
+    fn reserve(&mut self, plans: u32) -> Result<(), NoMemory>
+        requires { plans ≤ 1000 }
         ensures same { parts_of self.new ≡ parts_of self.old }
-        ensures room { OnOk result (HasRoom self.new) }
+        ensures room { OnOk result (HasRoom plans self.new) }
     {
         self.history.reserve(1)?;
         self.blocks.reserve(1)?;
-        self.locks.reserve(1)?;
         self.lives.reserve(1)?;
+        self.store.file.reserve(1)?;
+        self.store.locks.reserve(plans + 1)?;
         Ok(())
     }
 
     /// Adds the entry of a new request, for which there is room.
     fn note(&mut self, entry: Entry)
         requires opener { Lies 1 8 entry.opener }
+        requires eight { length self.old.seats ≡ 8 }
+        requires fresh { (seat_of self.old.seats entry.opener).last < entry.sync }
         requires room { vec_len self.old.history < vec_capacity self.old.history }
         ensures { parts_of self.new ≡ noted_parts (parts_of self.old) entry }
     {
         let place = self.history.len();
-        let seat = &mut self.seats[entry.opener as usize - 1];
-        seat.last = entry.sync;
-        seat.entry = Some(place);
+        self.seats.keep(entry.opener, entry.sync, place);
         append(&mut self.history, entry);
     }
 }

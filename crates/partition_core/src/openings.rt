@@ -1,21 +1,21 @@
 //! A partition as it begins.
 ghost use Rattle.std.specs.Prelude.{◌≡◌, ◌<◌, ◌≤◌, ◌++◌, ◌∷◌, [], All, length, map, IfOk, OnOk};
-ghost use Rattle.std.specs.List.{AllByRecursion};
-ghost use Rattle.sql_base.specs.Rows.{IsRow, key_width, width};
+ghost use Rattle.sql_base.specs.Rows.{AreRecords, IsRow, kinds};
+ghost use Rattle.sql_base.specs.Scripts.{AreLimits};
+ghost use Rattle.sql_base.specs.Tables.{IsTable};
+ghost use Rattle.key_sequenced.specs.Cells.{AreCells};
 ghost use Rattle.partition_state.specs.State.{new_cell, opening};
 ghost use Rattle.partition_core.specs.Contents.{kept_of, parts_of, IsServing};
 ghost use Rattle.partition_core.specs.Kept.{opened_with};
 
-use crate::contents::{Contents, Seat};
-use key_sequenced::Cell;
-use sql_base::{ColumnKind, Limits, NoMemory, Row, TableDef, row_key};
+use crate::contents::Contents;
+use crate::firsts::{first_keys, key_width};
+use key_sequenced::File;
+use lock_tables::LockTable;
+use quantum_runner::{CheckedTable, Store};
+use sql_base::{ColumnKind, Limits, List, NoMemory, Row, TableDef, row_key};
 use std::alloc::Global;
-
-const NEW_SEAT: Seat = Seat {
-    last: 0,
-    entry: None,
-    ended: 0,
-};
+use sync_messages::Openers;
 
 impl Contents {
     /// The contents of a partition of the table that holds the rows, with nothing served yet.
@@ -26,25 +26,27 @@ impl Contents {
         limits: Limits,
         rows: &[Row],
     ) -> Result<Contents, NoMemory>
-        requires visits { 0 < limits.quantum }
-        requires key { All (λ c. c < length table.now.columns) table.now.key }
-        requires key_bytes { key_width table.now ≤ 32 }
-        requires checks { table.now.checks ≡ [] }
-        requires firsts { table.now.firsts ≡ [] }
-        requires place { place ≡ 0 }
-        requires rows { All (IsRow table.now) rows.now }
+        requires table { IsTable table.now }
+        requires limits { AreLimits limits }
+        requires rows { AreRecords table.now rows.now }
         ensures opened { IfOk result (λ c. kept_of (parts_of c) ≡ opened_with (opening table.now place limits rows.now)) }
         ensures serving { IfOk result (λ c. IsServing (parts_of c)) }
     {
         Ok(Contents {
-            table: table.copied(alloc)?,
+            table: CheckedTable::new(alloc, table)?,
             place,
             limits,
             width: key_width(table),
-            cells: new_cells(alloc, table, rows)?,
-            locks: Vec::new(alloc),
+            kinds: copy_kinds(alloc, table)?,
+            firsts: first_keys(alloc, table)?,
+            rows: copy_rows(alloc, rows)?,
+            store: Store {
+                file: new_file(alloc, table, rows)?,
+                locks: LockTable::new(alloc),
+            },
             blocks: Vec::new(alloc),
-            seats: [NEW_SEAT; 8],
+            seats: Openers::new(alloc, 8)?,
+            ended: [0; 8],
             lives: Vec::new(alloc),
             high: 0,
             history: Vec::new(alloc),
@@ -52,58 +54,54 @@ impl Contents {
     }
 }
 
-fn new_cells(alloc: Global, table: &TableDef, rows: &[Row]) -> Result<Vec<Cell>, NoMemory>
-    requires key { All (λ c. c < length table.now.columns) table.now.key }
-    requires rows { All (IsRow table.now) rows.now }
-    ensures { IfOk result (λ cells. cells.items ≡ map (new_cell table.now) rows.now) }
+fn copy_kinds(alloc: Global, table: &TableDef) -> Result<List<ColumnKind>, NoMemory>
+    ensures { IfOk result (λ copy. copy ≡ kinds table.now) }
 {
-    let mut cells = Vec::new(alloc);
-    for row in rows {
-        append_cell(&mut cells, alloc, table, row)?;
+    let mut copy = List::new(alloc);
+    for column in table.columns.items() {
+        copy.push(column.kind)?;
     }
-    Ok(cells)
+    Ok(copy)
 }
 
-fn append_cell(
-    cells: &mut Vec<Cell>,
-    alloc: Global,
-    table: &TableDef,
-    row: &Row,
-) -> Result<(), NoMemory>
-    requires key { All (λ c. c < length table.now.columns) table.now.key }
-    requires row { IsRow table.now row.now }
-    ensures { OnOk result (cells.new.items ≡ cells.old.items ++ new_cell table.now row.now ∷ []) }
+fn copy_rows(alloc: Global, rows: &[Row]) -> Result<List<Row>, NoMemory>
+    ensures { IfOk result (λ copies. copies ≡ rows.now) }
 {
-    let cell = Cell {
-        key: row_key(alloc, row, table)?,
-        now: Some(row.clone()?),
-        was: None,
-        writer: None,
-    };
-    cells.push(cell)?;
+    let mut copies = List::new(alloc);
+    for row in rows {
+        copies.push(copy_row(row)?)?;
+    }
+    Ok(copies)
+}
+
+/// The file of the rows, whose keys rise.
+fn new_file(alloc: Global, table: &TableDef, rows: &[Row]) -> Result<File, NoMemory>
+    requires table { IsTable table.now }
+    requires rows { AreRecords table.now rows.now }
+    ensures { IfOk result (λ file. file.cells ≡ map (new_cell table.now) rows.now) }
+{
+    let mut file = File::new(alloc);
+    for row in rows {
+        load_row(&mut file, alloc, table, row)?;
+    }
+    Ok(file)
+}
+
+fn load_row(file: &mut File, alloc: Global, table: &TableDef, row: &Row) -> Result<(), NoMemory>
+    requires table { IsTable table.now }
+    requires row { IsRow table.now row.now }
+    requires above { AreCells (file.old.cells ++ new_cell table.now row.now ∷ []) }
+    ensures { OnOk result (file.new.cells ≡ file.old.cells ++ new_cell table.now row.now ∷ []) }
+{
+    let key = row_key(alloc, row, table)?;
+    let copy = copy_row(row)?;
+    file.reserve(1)?;
+    file.load(key, copy);
     Ok(())
 }
 
-/// How many bytes a key of the table has.
-fn key_width(table: &TableDef) -> usize
-    requires key { All (λ c. c < length table.now.columns) table.now.key }
-    requires key_bytes { key_width table.now ≤ 32 }
-    ensures { result ≡ key_width table.now }
+fn copy_row(row: &Row) -> Result<Row, NoMemory>
+    ensures { IfOk result (λ copy. copy ≡ row.now) }
 {
-    let columns = table.columns.items();
-    let mut sum = 0;
-    for column in table.key.items() {
-        let at = *column as usize;
-        sum += width_of(columns[at].kind);
-    }
-    sum
-}
-
-fn width_of(kind: ColumnKind) -> usize
-    ensures { result ≡ width kind }
-{
-    match kind {
-        ColumnKind::Int => 8,
-        ColumnKind::Char(width) => width as usize,
-    }
+    Ok(row.clone()?)
 }

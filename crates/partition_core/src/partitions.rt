@@ -1,28 +1,29 @@
 //! A partition, as its callers see it.
-ghost use Rattle.std.specs.Prelude.{◌≡◌, ◌<◌, ◌++◌, [], IfOk, OnOk, option_to_list};
-ghost use Rattle.sql_base.specs.Scripts.{Lies, AreLimits};
+ghost use Rattle.std.specs.Prelude.{◌≡◌, ◌<◌, ◌++◌, [], length, option_map, slice_get, IfOk, OnOk, Some, option_to_list};
+ghost use Rattle.sql_base.specs.Scripts.{AreLimits, Lies};
 ghost use Rattle.sql_base.specs.Tables.{IsTable};
 ghost use Rattle.sql_base.specs.Rows.{AreRecords};
 ghost use Rattle.partition_state.specs.State.{opening};
-ghost use Rattle.partition_core.specs.Kept.{IsReplayed, IsServed, Serves, Picks, opened_with, opener_in, rows_in};
+ghost use Rattle.partition_core.specs.Kept.{AreMarked, IsReplayed, Serves, Picks, opened_with, opener_in, rows_in, starved};
 
 use crate::contents::Contents;
 use dp_messages::{Reply, Request};
 use partition_state::Entry;
-use sql_base::{Limits, List, NoMemory, Row, TableDef};
+use sql_base::{Limits, List, Lock, NoMemory, Row, TableDef};
 use std::alloc::Global;
 use std::marker::Model;
+use sync_messages::Arrival;
 
 /// What became of a request.
 #[derive(Clone, Copy, Debug, PartialEq, Eq)]
 pub enum Served {
     /// Its sync was new: it was served, and one entry tells of it.
     New,
-    /// Its sync is the opener's last.
+    /// Its sync is the opener's last, and was served.
     Repeat,
     /// Its sync is below the opener's last.
     Old,
-    /// Its sync was new, and memory was short: nothing was done, and the sync is as new as before.
+    /// Memory was short for its sync, which is the opener's last now and will never be served.
     Starved,
 }
 
@@ -35,6 +36,8 @@ pub enum Pick<'a> {
     Pending,
     /// A later sync of the opener has been served.
     Passed,
+    /// Memory was short for the opener's last sync, which is this one or a later one.
+    Starved,
 }
 
 /// A partition with its history.
@@ -60,7 +63,7 @@ impl Model for Partition {
 }
 
 impl Partition {
-    /// A partition of a table that has no CHECK and no FIRST KEY, with its records. Nothing has been served.
+    /// The partition at a place of a table, with its records. Nothing has been served. Openers count from 1 to 8.
     pub fn new(
         alloc: Global,
         table: &TableDef,
@@ -71,9 +74,6 @@ impl Partition {
         requires table { IsTable table.now }
         requires limits { AreLimits limits }
         requires rows { AreRecords table.now rows.now }
-        requires checks { table.now.checks ≡ [] }
-        requires firsts { table.now.firsts ≡ [] }
-        requires place { place ≡ 0 }
         ensures { IfOk result (λ p. p ≡ opened_with (opening table.now place limits rows.now)) }
     {
         let contents = Contents::new(alloc, table, place, limits, rows)?;
@@ -81,24 +81,33 @@ impl Partition {
     }
 
     /// Serves a request of an opener from 1 to 8, whose sync and ordinal count from 1. Where the sync is above the
-    /// opener's last, the request takes one step and one entry is added, unless memory is short. Otherwise nothing
-    /// changes.
+    /// opener's last, the request takes one step and one entry is added; for want of memory the sync is marked as
+    /// starved, and nothing else changes. Where it isn't above, nothing changes.
     pub fn serve(&mut self, alloc: Global, opener: u32, sync: u64, request: &Request) -> Served
         requires opener { Lies 1 8 opener }
-        requires served { IsServed request.now.ask }
         ensures { Serves self.old opener sync request.now result self.new }
     {
-        let last = self.contents.seats[opener as usize - 1].last;
-        if sync == last {
-            return Served::Repeat;
+        match self.contents.arrive(opener, sync) {
+            Arrival::New => match self.contents.serve_new(alloc, opener, sync, request) {
+                Ok(()) => Served::New,
+                Err(_) => {
+                    self.contents.seats.starve(opener, sync);
+                    Served::Starved
+                }
+            },
+            Arrival::Repeat => Served::Repeat,
+            Arrival::Starved => Served::Starved,
+            Arrival::Old => Served::Old,
         }
-        if sync < last {
-            return Served::Old;
-        }
-        match self.contents.serve_new(alloc, opener, sync, request) {
-            Ok(()) => Served::New,
-            Err(_) => Served::Starved,
-        }
+    }
+
+    /// Marks a new sync of an opener from 1 to 8 as starved: it is the opener's last, and will never be served.
+    pub fn starve(&mut self, opener: u32, sync: u64)
+        requires opener { Lies 1 8 opener }
+        requires fresh { (opener_in self.old opener).last < sync }
+        ensures { self.new ≡ starved self.old opener sync }
+    {
+        self.contents.seats.starve(opener, sync);
     }
 
     /// The kept reply to a sync, from 1, of an opener from 1 to 8.
@@ -107,15 +116,18 @@ impl Partition {
         requires sync { 0 < sync }
         ensures { Picks (opener_in self.now opener) sync result }
     {
-        let seat = self.contents.seats[opener as usize - 1];
-        if seat.last < sync {
+        let last = self.contents.seats.last(opener);
+        if last < sync {
             return Pick::Pending;
         }
-        if sync < seat.last {
+        if self.contents.seats.is_starved(opener) {
+            return Pick::Starved;
+        }
+        if sync < last {
             return Pick::Passed;
         }
-        match seat.entry {
-            Some(place) => Pick::Reply(&self.contents.history[place].reply),
+        match self.contents.seats.kept(opener) {
+            Some(place) => Pick::Reply(reply_at(&self.contents.history, *place)),
             None => unreachable!(),
         }
     }
@@ -124,6 +136,7 @@ impl Partition {
     pub fn history(&self) -> &[Entry]
         ensures history { result.now ≡ self.now.history }
         ensures replayed { IsReplayed self.now }
+        ensures marked { AreMarked self.now }
     {
         self.contents.history.as_slice()
     }
@@ -133,6 +146,20 @@ impl Partition {
         ensures { result ≡ self.now.now.high }
     {
         self.contents.high
+    }
+
+    /// The locks, in table order.
+    pub fn locks(&self, alloc: Global) -> Result<List<Lock>, NoMemory>
+        ensures { IfOk result (λ locks. locks ≡ self.now.now.locks) }
+    {
+        self.contents.store.locks.locks(alloc)
+    }
+
+    /// How many subsets are under way.
+    pub fn blocks(&self) -> usize
+        ensures { result ≡ length self.now.now.blocks }
+    {
+        self.contents.blocks.len()
     }
 
     /// What was served, once the partition is done with.
@@ -149,7 +176,7 @@ impl Partition {
         ensures { IfOk result (λ rows. rows ≡ rows_in self.now) }
     {
         let mut rows = Vec::new(alloc);
-        for cell in &self.contents.cells {
+        for cell in self.contents.store.file.cells() {
             append_row(&mut rows, alloc, &cell.now)?;
         }
         Ok(List::from_vec(rows))
@@ -166,4 +193,11 @@ fn append_row(rows: &mut Vec<Row>, alloc: Global, row: &Option<Row>) -> Result<(
         }
         None => Ok(()),
     }
+}
+
+fn reply_at(entries: &[Entry], place: usize) -> &Reply
+    requires { place < length entries.now }
+    ensures { option_map (λ e. e.reply) (slice_get entries.now place) ≡ Some result.now }
+{
+    &entries[place].reply
 }

@@ -3,8 +3,8 @@ use Rattle.std.proofs.Common.{◌≡◌, ◌<◌, ◌^◌, ℕ, ◌+◌, List, [
 use Rattle.sql_base.specs.declared.lock_names.TxnName.{TxnName}
 use Rattle.sql_base.specs.declared.scripts.Script.{Script}
 use Rattle.commit_journal.specs.declared.Drawn.{Drawn}
-use Rattle.partition_core.specs.Alone.{Ready}
-use Rattle.partition_core.specs.Kept.{Kept}
+use Rattle.scan_partition.specs.Alone.{Ready}
+use Rattle.scan_partition.specs.Kept.{Kept}
 use Rattle.requester_fs.proofs.Lists.{Leads-append}
 use Rattle.requester_fs.specs.Leading.{Leads, Does, next_of, place_behind}
 use Rattle.requester_fs.specs.Places.{first_place, task_in, task_at, after_in, moved}

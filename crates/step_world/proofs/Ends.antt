@@ -5,7 +5,7 @@ use Rattle.sql_base.specs.declared.faults.NoMemory.{NoMemory}
 use Rattle.sql_base.specs.declared.scripts.Script.{Script}
 use Rattle.commit_journal.specs.declared.Drawn.{Drawn}
 use Rattle.partition_state.specs.History.{IsLegal, before}
-use Rattle.partition_core.specs.Kept.{Kept}
+use Rattle.scan_partition.specs.Kept.{Kept}
 use Rattle.session_grammar.specs.Follows.{in_line}
 use Rattle.requester_fs.specs.Leading.{next_of}
 use Rattle.requester_fs.specs.Places.{task_in}

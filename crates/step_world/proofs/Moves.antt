@@ -5,8 +5,8 @@ use Rattle.sql_base.specs.declared.key_ranges.Start.{Start}
 use Rattle.commit_journal.specs.declared.Drawn.{Drawn}
 use Rattle.dp_messages.specs.declared.replies.Reply.{Reply as PartitionReply}
 use Rattle.dp_messages.specs.declared.replies.Reply.TheVariants as reply
-use Rattle.partition_core.proofs.Alone.{ReadOn-push}
-use Rattle.partition_core.specs.Alone.{Phase, Fresh, Partway, Whole, Shows, AsksOn}
+use Rattle.scan_partition.proofs.Alone.{ReadOn-push}
+use Rattle.scan_partition.specs.Alone.{Phase, Fresh, Partway, Whole, Shows, AsksOn}
 use Rattle.partition_state.specs.State.{State}
 use Rattle.partition_state.specs.declared.entries.Entry.{Entry}
 use Rattle.requester_fs.specs.Places.{after_reply}

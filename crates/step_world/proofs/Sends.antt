@@ -11,12 +11,12 @@ use Rattle.dp_messages.specs.declared.replies.Reply.TheVariants as reply
 use Rattle.dp_messages.specs.declared.requests.Ask.{Ask}
 use Rattle.dp_messages.specs.declared.requests.Ask.TheVariants.{Continue, Prepare, EndCommit, EndUndo}
 use Rattle.dp_messages.specs.declared.requests.Request.{Request}
-use Rattle.partition_core.proofs.Alone.{begun, continued, prepared, committed, still-push}
+use Rattle.scan_partition.proofs.Alone.{begun, continued, prepared, committed, still-push}
 use Rattle.partition_state.proofs.Replays.{replay-push}
-use Rattle.partition_core.proofs.Replays.{IsReplayed-served}
-use Rattle.partition_core.specs.Alone.{Phase, Fresh, Partway, Whole, Ready, Over, ReadBy, Suits, Shows, AsksOn, by_reader, cells_from}
+use Rattle.scan_partition.proofs.Replays.{IsReplayed-served}
+use Rattle.scan_partition.specs.Alone.{Phase, Fresh, Partway, Whole, Ready, Over, ReadBy, Suits, Shows, AsksOn, by_reader, cells_from}
 use Rattle.partition_state.specs.History.{replay}
-use Rattle.partition_core.specs.Kept.{Kept, IsServed, served, entry_of, opener_in}
+use Rattle.scan_partition.specs.Kept.{Kept, IsServed, served, entry_of, opener_in}
 use Rattle.partition_state.specs.State.{State}
 use Rattle.partition_state.specs.Step.{step}
 use Rattle.partition_state.specs.declared.entries.Entry.{Entry}

@@ -12,10 +12,10 @@ use Rattle.sql_base.specs.declared.tables.TableDef.{TableDef}
 use Rattle.sql_base.specs.declared.values.Value.{Value}
 use Rattle.sql_base.specs.declared.values.Value.TheVariants as value
 use Rattle.key_sequenced.specs.declared.Cell.{Cell}
-use Rattle.partition_core.proofs.Alone.{opened-read}
-use Rattle.partition_core.specs.Alone.{Fresh, Suits, FitsBuffer}
+use Rattle.scan_partition.proofs.Alone.{opened-read}
+use Rattle.scan_partition.specs.Alone.{Fresh, Suits, FitsBuffer}
 use Rattle.partition_state.specs.History.{before}
-use Rattle.partition_core.specs.Kept.{Kept, opened_with}
+use Rattle.scan_partition.specs.Kept.{Kept, opened_with}
 use Rattle.partition_state.specs.State.{State, new_cell}
 use Rattle.partition_state.specs.Step.{is_shaped}
 use Rattle.requester_fs.specs.Leading.{Leads}

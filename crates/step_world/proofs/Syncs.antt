@@ -2,7 +2,7 @@
 use Rattle.std.proofs.Common.{◌≡◌, ℕ, ◌+◌, List, [], ◌∷◌, ◌++◌, length, map, ap, sym, ◌∙◌, arith, length-append}
 use Rattle.std.proofs.lemmas.List.{append-nil}
 use Rattle.commit_journal.specs.declared.Drawn.{Drawn}
-use Rattle.partition_core.specs.Alone.{Phase}
+use Rattle.scan_partition.specs.Alone.{Phase}
 use Rattle.partition_state.specs.State.{State}
 use Rattle.partition_state.specs.declared.entries.Entry.{Entry}
 use Rattle.session_grammar.specs.Sessions.{sync_behind}

@@ -9,7 +9,7 @@ use Rattle.sql_base.specs.declared.tables.TableDef.{TableDef}
 use Rattle.sql_base.specs.declared.values.Value.{Value}
 use Rattle.key_sequenced.specs.Cells.{Keyed, records}
 use Rattle.sql_base.specs.Keys.{is_from}
-use Rattle.partition_core.specs.Alone.{rows_between}
+use Rattle.scan_partition.specs.Alone.{rows_between}
 use Rattle.partition_state.specs.State.{new_cell}
 use Rattle.one_thread.specs.One.{World, first_fault, selects}
 use Rattle.one_thread.specs.Answer.{sessions_shown, world_behind}

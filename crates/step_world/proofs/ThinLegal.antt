@@ -12,7 +12,7 @@ use Rattle.sql_base.specs.declared.tables.TableDef.{TableDef}
 use Rattle.commit_journal.specs.declared.Drawn.{Drawn}
 use Rattle.dp_messages.specs.declared.replies.Reply.TheVariants as reply
 use Rattle.dp_messages.specs.declared.requests.Request.{Request}
-use Rattle.partition_core.specs.Alone.{Fresh, Whole}
+use Rattle.scan_partition.specs.Alone.{Fresh, Whole}
 use Rattle.partition_state.specs.History.{IsLegal}
 use Rattle.partition_state.specs.State.{State}
 use Rattle.partition_state.specs.declared.entries.Entry.{Entry}

@@ -24,7 +24,7 @@ use Rattle.dp_messages.specs.declared.requests.Request.{Request}
 use Rattle.dp_messages.specs.declared.requests.Ask.TheVariants.{EndCommit}
 use Rattle.dp_messages.specs.declared.replies.Reply.{Reply as PartitionReply}
 use Rattle.dp_messages.specs.declared.replies.Reply.TheVariants as reply
-use Rattle.partition_core.specs.Alone.{Reader, Phase, Fresh, Partway, Whole, Ready, Over, AsksOn, ReadOn, Shows, rows_between}
+use Rattle.scan_partition.specs.Alone.{Reader, Phase, Fresh, Partway, Whole, Ready, Over, AsksOn, ReadOn, Shows, rows_between}
 use Rattle.partition_state.specs.History.{replay}
 use Rattle.partition_state.specs.State.{State}
 use Rattle.partition_state.specs.declared.entries.Entry.{Entry}

@@ -3,9 +3,9 @@ use Rattle.std.proofs.Common.{◌≡◌, List, [], ◌∷◌, map, refl, sym, �
 use Rattle.sql_base.specs.declared.scripts.Script.{Script}
 use Rattle.sql_base.specs.declared.tables.TableDef.{TableDef}
 use Rattle.key_sequenced.specs.Cells.{AreCells}
-use Rattle.partition_core.proofs.Alone.{shown_whole}
-use Rattle.partition_core.proofs.AloneRows.{rows_shown}
-use Rattle.partition_core.specs.Alone.{Fresh}
+use Rattle.scan_partition.proofs.Alone.{shown_whole}
+use Rattle.scan_partition.proofs.AloneRows.{rows_shown}
+use Rattle.scan_partition.specs.Alone.{Fresh}
 use Rattle.partition_state.specs.declared.entries.Entry.{Entry}
 use Rattle.one_thread.specs.Answer.{answer_text}
 use Rattle.one_thread.specs.One.{loaded}

@@ -8,7 +8,7 @@ use Rattle.dp_messages.specs.declared.replies.Reply.TheVariants as reply
 use Rattle.dp_messages.specs.declared.requests.Ask.{Ask}
 use Rattle.dp_messages.specs.declared.requests.Request.{Request}
 use Rattle.sql_base.specs.declared.key_ranges.Start.{Start}
-use Rattle.partition_core.specs.Alone.{Reader, Phase, Fresh, Partway, Whole, Ready, Over, AsksOn, Shows, ReadOn}
+use Rattle.scan_partition.specs.Alone.{Reader, Phase, Fresh, Partway, Whole, Ready, Over, AsksOn, Shows, ReadOn}
 use Rattle.partition_state.specs.State.{State}
 use Rattle.partition_state.specs.declared.entries.Entry.{Entry}
 use Rattle.session_grammar.specs.Rows.{is_for}

@@ -9,9 +9,9 @@ use Rattle.dp_messages.specs.declared.replies.Reply.TheVariants as reply
 use Rattle.dp_messages.specs.declared.requests.Ask.{Ask}
 use Rattle.dp_messages.specs.declared.requests.Ask.TheVariants.{BeginRead, Continue, Prepare, EndCommit}
 use Rattle.key_sequenced.specs.declared.Cell.{Cell}
-use Rattle.partition_core.specs.Alone.{Phase, Fresh, Partway, Whole, Ready, Over, ReadBy, Suits, ReadOn, by_reader, cells_from}
+use Rattle.scan_partition.specs.Alone.{Phase, Fresh, Partway, Whole, Ready, Over, ReadBy, Suits, ReadOn, by_reader, cells_from}
 use Rattle.partition_state.specs.History.{before}
-use Rattle.partition_core.specs.Kept.{Kept, IsReplayed, opened_with}
+use Rattle.scan_partition.specs.Kept.{Kept, IsReplayed, opened_with}
 use Rattle.partition_state.specs.State.{State}
 use Rattle.partition_state.specs.declared.entries.Entry.{Entry}
 use Rattle.requester_fs.specs.Leading.{Leads}

@@ -9,7 +9,7 @@ use Rattle.sql_base.specs.declared.values.Value.{Value}
 use Rattle.commit_journal.specs.declared.Drawn.{Drawn}
 use Rattle.dp_messages.specs.declared.replies.Reply.TheVariants as reply
 use Rattle.dp_messages.specs.declared.requests.Ask.TheVariants.{Prepare, EndCommit}
-use Rattle.partition_core.specs.Alone.{Reader, Fresh, Whole, ReadOn, by_reader}
+use Rattle.scan_partition.specs.Alone.{Reader, Fresh, Whole, ReadOn, by_reader}
 use Rattle.partition_state.specs.History.{IsLegal, before}
 use Rattle.partition_state.specs.State.{State, opening}
 use Rattle.partition_state.specs.declared.entries.Entry.{Entry}

@@ -1,14 +1,14 @@
 //! One action of a session, with what the partition or the journal does at once.
 ghost use Rattle.std.specs.Prelude.{◌≡◌, ◌<◌, ◌+◌, ◌^◌, ◌++◌, ◌∷◌, [], max, length, true, false, Ok, IfOk, OnOk};
-ghost use Rattle.partition_core.specs.Kept.{IsServed, entry_of, opener_in, served};
+ghost use Rattle.scan_partition.specs.Kept.{IsServed, entry_of, opener_in, served};
 ghost use Rattle.session_grammar.specs.Sessions.{Ends};
 ghost use Rattle.sql_base.specs.declared.scripts.Script.{Script as AnyScript};
 ghost use Rattle.step_world.specs.Running.{Running, actions_left, last_stamp};
 
 use commit_journal::Drawn;
 use dp_messages::{Reply, Request};
-use partition_core::{Partition, Pick, Served};
 use requester_fs::Session;
+use scan_partition::{Partition, Pick, Served};
 use session_grammar::{Action, Answer};
 use sql_base::{List, NoMemory, TxnName};
 use std::alloc::Global;

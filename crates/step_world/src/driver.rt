@@ -11,9 +11,9 @@ ghost use Rattle.step_world.specs.Running.{Opens};
 
 use crate::actions::step;
 use commit_journal::Drawn;
-use partition_core::Partition;
 use requester_fs::Session;
 use run_record::RunRecord;
+use scan_partition::Partition;
 use sql_base::{List, NoMemory, Script};
 use std::alloc::Global;
 

@@ -1,7 +1,7 @@
 -- A new request is kept with its reply.
 use Rattle.std.proofs.Common.{◌≡◌, ap, ◌∙◌, arith}
-use Rattle.partition_core.proofs.Alone.{kept_reply}
-use Rattle.partition_core.specs.Kept.{Kept, opener_in, entry_of}
+use Rattle.scan_partition.proofs.Alone.{kept_reply}
+use Rattle.scan_partition.specs.Kept.{Kept, opener_in, entry_of}
 use Rattle.step_world.proofs.Kept.{kept_one, copy_of}
 use Rattle.step_world.proofs.actions.ask.Goals as goal
 

@@ -1,40 +1,44 @@
-use Rattle.std.proofs.Common.{List, ap, sym, ◌∙◌, subst, All}
-use Rattle.std.proofs.lemmas.Result.{IfOk-weaker}
+use Rattle.std.proofs.Common.{◌≡◌, ◌≤◌, List, length, arith, Some, true, ap, sym, ◌∙◌, subst}
 use Rattle.sql_base.specs.Keys.{key_eq}
-use Rattle.sql_base.specs.declared.lock_names.Lock.{Lock}
 use Rattle.key_sequenced.specs.declared.Cell.{Cell}
 use Rattle.subset_blocks.specs.Blocks.{find_block}
-use Rattle.quantum_core.specs.Quantum.{quantum}
-use Rattle.quantum_core.specs.Walk.{HasColumns}
-use Rattle.partition_core.specs.Contents.{state_of, parts_of, ReadsColumns}
+use Rattle.subset_blocks.specs.declared.Numbered.{Numbered}
 use Rattle.subset_blocks.proofs.BlockLists.{found_has}
-use Rattle.partition_core.proofs.Begun.{next-told}
+use Rattle.quantum_core.specs.declared.works.SetWork.{SetWork}
+use Rattle.quantum_runner.specs.Plans.{IsWalk}
+use Rattle.quantum_runner.specs.Works.{IsWork}
+use Rattle.partition_state.specs.Step.{kept_key}
+use Rattle.partition_core.specs.Contents.{parts_of, state_of}
+use Rattle.std.proofs.lemmas.Result.{IfOk-weaker}
+use Rattle.partition_core.specs.Changes.{IsFitting}
+use Rattle.partition_core.specs.Firsts.{next_change, next_reply}
+use Rattle.partition_core.proofs.Told.{goes-told, if_both, next-fits, next-told, told-by}
 use Rattle.partition_core.proofs.contents.Contents.go_on.Goals as goal
 
-pub read_quantum-requires-clause-reads : goal.read_quantum-requires-clause-reads
-read_quantum-requires-clause-reads c =
+pub walk-requires-clause-work : goal.walk-requires-clause-work
+walk-requires-clause-work c =
+    let self = c.args.self.now in
     let found = sym (c.in-Some.ensures ∙ ap (find_block c.args.subset c.args.t) c.deref.ensures.value) in
-    (found_has (ReadsColumns c.args.self.now.cells.items) _ c.args.self.now.blocks.items c.in-Some.numbered.now c.requires.reads.reads found).0
-
-pub read_quantum-requires-clause-rows : goal.read_quantum-requires-clause-rows
-read_quantum-requires-clause-rows c =
-    let found = sym (c.in-Some.ensures ∙ ap (find_block c.args.subset c.args.t) c.deref.ensures.value) in
-    let rows : List Cell → Type 0 = λ cells. All (HasColumns c.in-Some.numbered.now.block.work) cells in
-    subst rows (sym c.deref-2.ensures.value) (found_has (ReadsColumns c.args.self.now.cells.items) _ c.args.self.now.blocks.items c.in-Some.numbered.now c.requires.reads.reads found).1
+    found_has (λ (b : Numbered SetWork). IsWork self.table b.block.work) _ self.blocks.items c.in-Some.numbered.now c.requires.serving.works found
 
 pub returns-clause-told : goal.returns-clause-told
 returns-clause-told c =
     let self = c.args.self.now in
     let p = state_of (parts_of self) in
     let b = c.in-Some.numbered.now in
-    let found = c.in-Some.ensures ∙ ap (find_block c.args.subset c.args.t) c.deref.ensures.value in
-    let has = found_has (ReadsColumns self.cells.items) _ self.blocks.items b c.requires.reads.reads (sym found) in
-    let right = ap (λ k. key_eq k c.args.last.now) (sym c.kept_key-kept.ensures) ∙ sym c.is_key.ensures ∙ c.if-not-is_key.false in
-    let replied = c.in_ok-reply.ensures
-    ∙ ap (λ (cells : List Cell). (quantum self.limits self.table cells c.deref-3.result.now b.block).reply) c.deref-2.ensures.value
-    ∙ ap (λ (locks : List Lock). (quantum self.limits self.table self.cells.items locks b.block).reply) c.deref-3.ensures.value in
-    IfOk-weaker c.after_next.result _ _ (λ j told. next-told p c.args.last.now _ b _ _ found right has.0 replied (told p c.args.t)) c.after_next.ensures.told
+    let found : find_block c.args.subset c.args.t p.blocks ≡ Some b = sym (c.in-Some.ensures ∙ ap (find_block c.args.subset c.args.t) c.deref.ensures.value) in
+    let right : key_eq (kept_key b.block.start) c.args.last.now ≡ true = ap (λ k. key_eq k c.args.last.now) (sym c.kept_key-kept.ensures) ∙ sym c.is_key.ensures ∙ c.if-not-is_key.false in
+    let walk = c.in_ok-walked.walked in
+    let is : IsWalk p.limits p.table p.cells p.locks b.block walk = subst (λ (cells : List Cell). IsWalk p.limits p.table cells p.locks b.block walk) c.cells.ensures.cells c.in_ok-walked.ensures in
+    let told = next-told p c.args.t b walk c.requires.serving.keeps.cells.rise is in
+    if_both c.after_next.result _ _ _
+    (λ j reply change. told-by p c.args.t j (next_reply b.number walk.reply) (next_change b.number walk) reply change ∙ told ∙ goes-told p c.args.last.now b _ found right)
+    c.after_next.ensures.reply c.after_next.ensures.change
 
 pub returns-clause-fits : goal.returns-clause-fits
 returns-clause-fits c =
-    IfOk-weaker c.after_next.result _ _ (λ j fits. fits (parts_of c.args.self.now)) c.after_next.ensures.fits
+    let q = parts_of c.args.self.now in
+    let walk = c.in_ok-walked.walked in
+    let limits = c.requires.serving.formed.limits in
+    let few : length walk.plans ≤ 1000 = omega (arith, c.in_ok-walked.ensures.few, limits.quantum.1) in
+    IfOk-weaker c.after_next.result _ _ (λ j change. subst (IsFitting q) (sym change) (next-fits q c.in-Some.numbered.now.number walk.plans walk.reply few)) c.after_next.ensures.change

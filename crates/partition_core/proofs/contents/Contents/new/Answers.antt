@@ -1,20 +1,7 @@
-use Rattle.std.proofs.Common.{◌≡◌, ◌∙◌, ap, sym, subst, []}
-use Rattle.std.specs.Prelude.{All, map}
-use Rattle.sql_base.specs.Rows.{IsRow, key_width}
-use Rattle.sql_base.specs.declared.tables.TableDef.{TableDef}
-use Rattle.partition_state.specs.State.{new_cell}
 use Rattle.partition_core.proofs.Opened.{IsServing-new}
 use Rattle.partition_core.proofs.contents.Contents.new.Goals as goal
 
 pub returns-clause-serving : goal.returns-clause-serving
 returns-clause-serving c =
-    let table = c.in_ok-copied.field-0 in
-    let same : table ≡ c.args.table.now = c.in_ok-copied.ensures in
-    let rows = c.args.rows.now in
-    let none : c.new.result.items ≡ [] = c.new.ensures.items in
-    rw (c.new.ensures.items, c.new-2.ensures.items, c.new-3.ensures.items, c.new-4.ensures.items)
-    (IsServing-new table c.args.place c.args.limits c.key_width.result c.in_ok-new_cells.field-0.items rows c.requires.visits c.requires.place
-    (ap (λ (t : TableDef). t.firsts) same ∙ c.requires.firsts)
-    (c.key_width.ensures ∙ ap key_width (sym same))
-    (c.in_ok-new_cells.ensures ∙ ap (λ (t : TableDef). map (new_cell t) rows) (sym same))
-    (subst (λ (t : TableDef). All (IsRow t) rows) (sym same) c.requires.rows))
+    rw (c.in_ok-new.ensures, c.key_width.ensures, c.in_ok-copy_kinds.ensures, c.in_ok-first_keys.ensures, c.in_ok-copy_rows.ensures, c.in_ok-new_file.ensures, c.new-2.ensures, c.new-3.ensures.items, c.in_ok-new-2.ensures, c.new-5.ensures.items, c.new-6.ensures.items)
+    (IsServing-new c.args.table.now c.args.place c.args.limits c.args.rows.now c.requires.table c.requires.limits c.requires.rows)

@@ -1,0 +1,4 @@
+pub mod Checking
+pub mod Verdicts
+pub mod Walking
+pub mod Changing

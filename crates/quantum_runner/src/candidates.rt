@@ -1,0 +1,46 @@
+//! Which cells a quantum looks at.
+ghost use Rattle.std.specs.Prelude.{◌≡◌};
+ghost use Rattle.sql_base.specs.Keys.{is_from};
+ghost use Rattle.quantum_core.specs.Verdicts.{hides, is_candidate, is_hidden};
+
+use crate::works::Work;
+use key_sequenced::Cell;
+use sql_base::{Access, Start, TxnName};
+use subset_blocks::Block;
+
+/// Whether a quantum of the block looks at the cell.
+pub fn sees(block: &Block<Work>, cell: &Cell) -> bool
+    ensures { result ≡ is_candidate block.now cell.entry.now }
+{
+    is_at_start(&block.start, cell.key.bytes())
+        && cell.key.bytes().cmp(block.high.bytes()).is_le()
+        && !is_gone(block, cell)
+}
+
+fn is_at_start(start: &Start, key: &[u8]) -> bool
+    ensures { result ≡ is_from start.now key.now }
+{
+    match start {
+        Start::At(low) => low.bytes().cmp(key).is_le(),
+        Start::After(last) => last.bytes().cmp(key).is_lt(),
+    }
+}
+
+fn is_gone(block: &Block<Work>, cell: &Cell) -> bool
+    ensures { result ≡ is_hidden block.now cell.entry.now cell.entry.now.now }
+{
+    match &cell.now {
+        Some(_) => false,
+        None => hides_from(block.access, block.holder, cell.writer),
+    }
+}
+
+fn hides_from(access: Access, holder: TxnName, writer: Option<TxnName>) -> bool
+    ensures { result ≡ hides access holder writer }
+{
+    match (access, writer) {
+        (Access::Browse, _) => true,
+        (_, Some(other)) => other == holder,
+        (_, None) => false,
+    }
+}

@@ -1,0 +1,44 @@
+use Rattle.std.proofs.Common.{◌≡◌, ◌<◌, ◌-◌, length, Some, None, ap, sym, ◌∙◌, arith, rules, not, ◌&&◌}
+use Rattle.std.specs.Prelude.{find, option_and_then, ◌==◌}
+use Rattle.std.proofs.lemmas.Grind.{common_steps}
+use Rattle.sql_base.specs.Locks.{same_txn}
+use Rattle.scan_partition.specs.Contents.{state_of, parts_of}
+use Rattle.scan_partition.specs.Changes.{tells}
+use Rattle.scan_partition.specs.declared.contents.Seat.{Seat}
+use Rattle.partition_state.specs.declared.lives.Live.{Live}
+use Rattle.scan_partition.proofs.Judged.{not_ended, judged-other, answered-if}
+use Rattle.scan_partition.proofs.contents.Contents.judge.Goals as goal
+
+pub returns-in-Some-clause-told : goal.returns-in-Some-clause-told
+returns-in-Some-clause-told c =
+    let q = parts_of c.args.self.now in
+    let t = c.args.t in
+    let d : Seat = record { last = 0; entry = None; ended = 0 } in
+    let within : t.session - 1 < length q.seats = search rules in
+    let new = not_ended q t d within c.if-t-ended.false in
+    let other = sym c.in-Some.is ∙ c.other_live.ensures ∙ ap (find (λ (l : Live). (l.name.session == t.session) && not (l.name.ordinal == t.ordinal))) c.deref.ensures.value in
+    ap (tells (state_of q) t) c.refusal-in-Some.ensures ∙ judged-other (state_of q) t c.args.ask.now _ new other
+
+pub returns-in-Some-floor_of-clause-told : goal.returns-in-Some-floor_of-clause-told
+returns-in-Some-floor_of-clause-told c =
+    let q = parts_of c.args.self.now in
+    let t = c.args.t in
+    let d : Seat = record { last = 0; entry = None; ended = 0 } in
+    let within : t.session - 1 < length q.seats = search rules in
+    let new = not_ended q t d within c.if-t-ended.false in
+    let none : None ≡ c.other_live.result = grind (arith, common_steps) in
+    let alone = none ∙ c.other_live.ensures ∙ ap (find (λ (l : Live). (l.name.session == t.session) && not (l.name.ordinal == t.ordinal))) c.deref.ensures.value in
+    let floor = sym c.in-Some-floor_of.is ∙ c.floor_of.ensures ∙ ap (λ ls. option_and_then (λ (l : Live). l.floor) (find (λ (l : Live). same_txn l.name t) ls)) c.deref-2.ensures.value in
+    answered-if (state_of q) t c.args.ask.now (Some c.in-Some-floor_of.floor) c.judge_prepared.result new alone floor c.judge_prepared.ensures.told
+
+pub returns-in-None-clause-told : goal.returns-in-None-clause-told
+returns-in-None-clause-told c =
+    let q = parts_of c.args.self.now in
+    let t = c.args.t in
+    let d : Seat = record { last = 0; entry = None; ended = 0 } in
+    let within : t.session - 1 < length q.seats = search rules in
+    let new = not_ended q t d within c.if-t-ended.false in
+    let none : None ≡ c.other_live.result = grind (arith, common_steps) in
+    let alone = none ∙ c.other_live.ensures ∙ ap (find (λ (l : Live). (l.name.session == t.session) && not (l.name.ordinal == t.ordinal))) c.deref.ensures.value in
+    let floor = sym c.in-None.is ∙ c.floor_of.ensures ∙ ap (λ ls. option_and_then (λ (l : Live). l.floor) (find (λ (l : Live). same_txn l.name t) ls)) c.deref-2.ensures.value in
+    answered-if (state_of q) t c.args.ask.now None c.judge_kind.result new alone floor c.judge_kind.ensures.told

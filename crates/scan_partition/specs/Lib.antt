@@ -1,0 +1,4 @@
+pub mod Kept
+pub mod Contents
+pub mod Changes
+pub mod Alone

@@ -1,0 +1,94 @@
+//! What a request comes to, by the checks before the kinds and then by kind.
+ghost use Rattle.std.specs.Prelude.{◌≡◌, ◌<◌, ◌≤◌, IfOk, slice_index_or};
+ghost use Rattle.sql_base.specs.Scripts.{Lies};
+ghost use Rattle.scan_partition.specs.Contents.{state_of, parts_of, AreStill, AreReads};
+ghost use Rattle.scan_partition.specs.Changes.{tells, IsFitting};
+ghost use Rattle.scan_partition.specs.Kept.{IsServed};
+ghost use Rattle.partition_state.specs.Step.{answered, by_kind, is_closing, unless_prepared};
+
+use crate::changes::{Judgement, refusal};
+use crate::contents::Contents;
+use crate::lives::{floor_of, other_live};
+use dp_messages::{Ask, Reply};
+use sql_base::{NoMemory, TxnName};
+use std::alloc::Global;
+
+impl Contents {
+    /// What a request of the transaction comes to. Nothing changes yet.
+    pub fn judge(&self, alloc: Global, t: TxnName, ask: &Ask) -> Result<Judgement, NoMemory>
+        requires opener { Lies 1 8 t.session }
+        requires served { IsServed ask.now }
+        requires still { AreStill (parts_of self.now) }
+        requires reads { AreReads (parts_of self.now) }
+        ensures told { IfOk result (λ j. tells (state_of (parts_of self.now)) t j ≡ answered (state_of (parts_of self.now)) t ask.now) }
+        ensures fits { IfOk result (λ j. IsFitting (parts_of self.now) j.change) }
+    {
+        let ended = self.seats[t.session as usize - 1].ended;
+        if t.ordinal <= ended {
+            return Ok(refusal(Reply::AfterEnd { ended }));
+        }
+        if let Some(other) = other_live(&self.lives, t) {
+            return Ok(refusal(Reply::StillLive {
+                ordinal: other.name.ordinal,
+            }));
+        }
+        match floor_of(&self.lives, t) {
+            Some(floor) => self.judge_prepared(alloc, t, ask, floor),
+            None => self.judge_kind(alloc, t, ask),
+        }
+    }
+
+    fn judge_prepared(
+        &self,
+        alloc: Global,
+        t: TxnName,
+        ask: &Ask,
+        floor: u64,
+    ) -> Result<Judgement, NoMemory>
+        requires served { IsServed ask.now }
+        requires still { AreStill (parts_of self.now) }
+        requires reads { AreReads (parts_of self.now) }
+        ensures told { IfOk result (λ j. tells (state_of (parts_of self.now)) t j ≡ unless_prepared (state_of (parts_of self.now)) t ask.now (Some floor)) }
+        ensures fits { IfOk result (λ j. IsFitting (parts_of self.now) j.change) }
+    {
+        if is_closing(ask) {
+            self.judge_kind(alloc, t, ask)
+        } else {
+            Ok(refusal(Reply::AfterPrepare { floor }))
+        }
+    }
+
+    fn judge_kind(&self, alloc: Global, t: TxnName, ask: &Ask) -> Result<Judgement, NoMemory>
+        requires served { IsServed ask.now }
+        requires still { AreStill (parts_of self.now) }
+        requires reads { AreReads (parts_of self.now) }
+        ensures told { IfOk result (λ j. tells (state_of (parts_of self.now)) t j ≡ by_kind (state_of (parts_of self.now)) t ask.now) }
+        ensures fits { IfOk result (λ j. IsFitting (parts_of self.now) j.change) }
+    {
+        match ask {
+            Ask::BeginRead {
+                access,
+                granule,
+                range,
+                filter: None,
+                columns,
+            } => self.begin_read(alloc, t, *access, granule, range, columns),
+            Ask::Continue { subset, last } => self.go_on(alloc, t, *subset, last),
+            Ask::Prepare => Ok(self.prepare(t)),
+            Ask::EndCommit { stamp } => Ok(self.end_commit(t, *stamp)),
+            _ => unreachable!(),
+        }
+    }
+}
+
+/// Whether a prepared transaction may still ask this.
+fn is_closing(ask: &Ask) -> bool
+    ensures { result ≡ is_closing ask.now }
+{
+    match ask {
+        Ask::Prepare => true,
+        Ask::EndCommit { stamp: _ } => true,
+        Ask::EndUndo => true,
+        _ => false,
+    }
+}

@@ -1,0 +1,17 @@
+//! A partition and its history: what the Disk Process of one partition keeps, and how it serves a request.
+#![tactic(auto)]
+
+mod begins;
+mod changes;
+mod contents;
+mod continues;
+mod ends;
+mod judges;
+mod lives;
+mod locks;
+mod notes;
+mod openings;
+mod partitions;
+mod shapes;
+
+pub use partitions::{Partition, Pick, Served};
