@@ -1,3 +1,4 @@
+//! What a mail carries.
 ghost use Rattle.std.specs.Prelude.{◌≡◌, ℕ, List};
 
 /// What a mail carries. Contracts see it as its bytes, its spelling.

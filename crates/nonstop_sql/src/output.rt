@@ -1,3 +1,4 @@
+//! Writes bytes to a sink, piece by piece.
 ghost use Rattle.std.specs.Prelude.{ℕ, ◌≤◌, take, OnOk, OnErr};
 ghost use Rattle.std.specs.Io.KnownBytes.{Appends};
 ghost use Rattle.outside.specs.Counter.{Rose};

@@ -1,3 +1,4 @@
+//! Attempts and tables as they are shown.
 use sql_base::{Given, List, Outcome};
 
 /// An attempt of a transaction as it is shown.

@@ -1,3 +1,4 @@
+//! Which cells a quantum looks at.
 ghost use Rattle.std.specs.Prelude.{◌≡◌};
 ghost use Rattle.sql_base.specs.Keys.{is_from};
 ghost use Rattle.quantum_core.specs.Verdicts.{hides, is_hidden, is_candidate};

@@ -1,3 +1,4 @@
+//! The locks that stand in a holder's way.
 ghost use Rattle.std.specs.Prelude.{◌≡◌, option_copied};
 ghost use Rattle.sql_base.specs.Locks.{conflicts, first_conflict, overlaps};
 

@@ -1,3 +1,4 @@
+//! The verdict on a candidate.
 ghost use Rattle.std.specs.Prelude.{◌≡◌, ◌<◌, IfOk, All, length, option_copied};
 ghost use Rattle.sql_base.specs.Rows.{packed};
 ghost use Rattle.quantum_core.specs.Verdicts.{verdict, barrier};

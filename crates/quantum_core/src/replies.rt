@@ -1,3 +1,4 @@
+//! What a quantum answers.
 use sql_base::{Cause, Fault, Key, List, Lock, Packed};
 
 /// What a quantum answers.

@@ -1,3 +1,4 @@
+//! What a selected record comes to.
 use sql_base::{Fault, Lock, Packed, Row};
 
 /// What a selected record comes to.

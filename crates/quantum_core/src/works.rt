@@ -1,3 +1,4 @@
+//! What is done with the selected records.
 use sql_base::{Assign, Expr, List};
 
 /// What is done with the selected records.

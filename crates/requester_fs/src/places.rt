@@ -1,3 +1,4 @@
+//! Where a session stands in its transaction.
 ghost use Rattle.std.specs.Prelude.{◌≡◌, ◌+◌, ◌<◌, ◌^◌, IfOk};
 ghost use Rattle.requester_fs.specs.Places.{begin, task_at, first_place, moved, repeated, redriven, after_undo, after_reply, after_row, after_prepare, after_draw, after};
 

@@ -1,3 +1,4 @@
+//! A session: what it asks next, and the log of what it was answered.
 ghost use Rattle.std.specs.Prelude.{◌≡◌, ◌≤◌, ◌<◌, ◌+◌, ◌^◌, ℕ, List, [], ◌∷◌, ◌++◌, length, IsTrue, IfOk, OnOk, OnErr};
 ghost use Rattle.sql_base.specs.Scripts.{Lies};
 ghost use Rattle.sql_base.specs.declared.scripts.Script.{Script as AnyScript};

@@ -1,3 +1,4 @@
+//! The record of a run.
 use commit_journal::Drawn;
 use outside::Passage;
 use partition_state::Entry;

@@ -1,4 +1,4 @@
-//! A partition and its history: what the Disk Process of one partition keeps, and how it serves a request.
+//! A partition that serves reads without a filter alone, and its history; it goes once sessions ask for more.
 #![tactic(auto)]
 
 mod begins;

@@ -1,3 +1,4 @@
+//! Expressions as trees.
 use crate::bytes::Text;
 use sqlite_items::Boxed;
 

@@ -1,3 +1,4 @@
+//! Want of memory, and the faults of statements and expressions.
 use std::alloc::{AllocError, AllocFailed};
 
 /// Want of memory.

@@ -1,3 +1,4 @@
+//! Ranges of keys.
 use crate::bytes::Key;
 
 /// The keys from `low` to `high`, both among them.

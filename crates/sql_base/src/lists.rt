@@ -1,3 +1,4 @@
+//! Growing lists.
 ghost use Rattle.std.specs.Prelude.{◌≡◌, ◌++◌, ◌∷◌, [], OnOk, OnErr};
 
 use crate::faults::NoMemory;

@@ -1,3 +1,4 @@
+//! Locks: their modes and holders, and how statements look at them.
 use crate::bytes::Prefix;
 
 /// The mode of a lock: shared or exclusive.

@@ -1,3 +1,4 @@
+//! How attempts of a transaction end, and what statements gave.
 use crate::bytes::{Key, Packed};
 use crate::faults::Fault;
 use crate::lists::List;

@@ -1,3 +1,4 @@
+//! Rows as bytes.
 ghost use Rattle.std.specs.Prelude.{◌≡◌, ◌<◌, ◌++◌, length, All, IfOk, OnOk};
 ghost use Rattle.sql_base.specs.Rows.{packed, packed_value};
 

@@ -1,3 +1,4 @@
+//! Scripts with their limits, loads and sessions.
 use crate::lists::List;
 use crate::statements::Statement;
 use crate::tables::TableDef;

@@ -1,3 +1,4 @@
+//! Statements.
 use crate::expressions::Expr;
 use crate::lists::List;
 use crate::lock_names::{Access, Mode};

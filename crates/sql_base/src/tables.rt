@@ -1,3 +1,4 @@
+//! Tables and their columns.
 ghost use Rattle.std.specs.Prelude.{◌≡◌, [], IfOk};
 
 use crate::bytes::Name;

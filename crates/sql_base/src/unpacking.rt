@@ -1,3 +1,4 @@
+//! Rows read back from their bytes.
 ghost use Rattle.std.specs.Prelude.{◌≡◌, ◌≢◌, ◌≤◌, ◌↔◌, ℕ, length, sum_by, true, false, IsTrue, IfOk};
 ghost use Rattle.std.specs.Int.{w64, cast_signed, from_be_bytes};
 ghost use Rattle.sql_base.specs.Rows.{is_printable, unpacked, unpacked_value, width};

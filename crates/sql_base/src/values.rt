@@ -1,3 +1,4 @@
+//! Values and rows.
 ghost use Rattle.std.specs.Prelude.{◌≡◌};
 
 use crate::bytes::Text;

@@ -1,3 +1,4 @@
+//! Why bytes are no word.
 ghost use Rattle.std.specs.Prelude.{◌≡◌};
 ghost use Rattle.statement_words.specs.declared.faults.WordFault.TheVariants as faults;
 

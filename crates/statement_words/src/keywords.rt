@@ -1,3 +1,4 @@
+//! The words of the language that are no names.
 ghost use Rattle.std.specs.Prelude.{◌≡◌, is_some};
 ghost use Rattle.sql_base.specs.Names.{is_keyword};
 ghost use Rattle.statement_words.specs.declared.keywords.Keyword as keyword;

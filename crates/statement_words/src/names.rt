@@ -1,3 +1,4 @@
+//! Names and keywords at the front of bytes.
 ghost use Rattle.std.specs.Prelude.{◌≡◌, ◌<◌, ◌≤◌, ◌^◌, length, IfOk};
 ghost use Rattle.std.specs.List.{prefix_len};
 ghost use Rattle.statement_words.specs.Reading.{Gives};

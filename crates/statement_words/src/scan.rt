@@ -1,3 +1,4 @@
+//! The tokens of a text, from its front to its end.
 ghost use Rattle.std.specs.Prelude.{◌≡◌, ◌+◌, ◌<◌, ◌≤◌, ◌^◌, length, drop, IfOk};
 ghost use Rattle.std.specs.List.{AllByRecursion};
 ghost use Rattle.statement_words.specs.Reading.{Gives};

@@ -1,3 +1,4 @@
+//! Signs at the front of bytes.
 ghost use Rattle.std.specs.Prelude.{◌≡◌, ◌≤◌, length, IfOk};
 ghost use Rattle.statement_words.specs.Reading.{Gives};
 ghost use Rattle.statement_words.specs.Words.{sign_at};

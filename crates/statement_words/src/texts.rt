@@ -1,3 +1,4 @@
+//! Texts at the front of bytes.
 ghost use Rattle.std.specs.Prelude.{[], ◌≡◌, ◌+◌, ◌<◌, ◌≤◌, ◌^◌, length, IfOk, true, false};
 ghost use Rattle.statement_words.specs.Reading.{Gives};
 ghost use Rattle.statement_words.specs.Words.{text_step, text_from, text_at};

@@ -1,3 +1,4 @@
+//! Tokens with their places.
 use crate::keywords::Keyword;
 use sql_base::{Name, Text};
 

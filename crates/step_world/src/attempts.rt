@@ -1,3 +1,4 @@
+//! The attempts that the log of a session tells of.
 ghost use Rattle.std.specs.Prelude.{◌≡◌, ◌++◌, IfOk, OnOk, flat_map, fold};
 ghost use Rattle.sql_base.specs.declared.outcomes.Outcome.TheVariants.{RolledBack};
 ghost use Rattle.session_grammar.specs.Rows.{failure, is_end};

@@ -1,3 +1,4 @@
+//! The rows that tables are loaded with.
 ghost use Rattle.std.specs.Prelude.{◌≡◌, ◌++◌, IfOk, OnOk};
 ghost use Rattle.one_thread.specs.One.{load_rows, loaded};
 

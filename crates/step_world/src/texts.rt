@@ -1,3 +1,4 @@
+//! The text of the record of a script with one session.
 ghost use Rattle.std.specs.Prelude.{◌≡◌, IfOk};
 ghost use Rattle.one_thread.specs.Text.{run_text};
 ghost use Rattle.run_record.specs.Openings.{log_of};

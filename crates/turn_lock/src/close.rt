@@ -1,4 +1,4 @@
-// The end of a lock.
+//! The end of a lock.
 ghost use Rattle.std.specs.Prelude.{◌≡◌, ℕ, ◌<◌, [], false, map, All, Contains, vec_len};
 ghost use mathlib.Core.List.{IsPrefix};
 ghost use Rattle.turn_lock.specs.Pass.{HasRoot, IsMadeOf, lock_id};

@@ -1,3 +1,4 @@
+//! The value of a lock while a pass holds the turn.
 ghost use Rattle.std.specs.Prelude.{◌≡◌};
 ghost use Rattle.std.specs.Borrow.{sem, Lends};
 ghost use Rattle.turn_lock.specs.contracts.held.Held.{the_row};

@@ -1,3 +1,4 @@
+//! The lock round a value that has a history.
 ghost use Rattle.std.specs.Prelude.{◌≡◌, ◌≢◌, ◌<◌, ◌++◌, ◌∷◌, [], true, false, None, Some, IfOk, IfErr};
 ghost use mathlib.Core.List.{IsPrefix};
 ghost use Rattle.turn_lock.specs.Pass.{HasRoot, AddsAtMostOne, with_turn, with_loss, with_entry, without_turn};

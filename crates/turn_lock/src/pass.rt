@@ -1,3 +1,4 @@
+//! The right to take turns at one lock.
 use crate::stands_for::StandsFor;
 use crate::view::SeatOf;
 use std::marker::Model;

@@ -1,3 +1,4 @@
+//! What a turn lock may hold.
 ghost use Rattle.std.specs.Prelude.{◌≡◌, List, length};
 
 /// What a turn lock may hold: a value that has a history, which is a list of entries, and a root, from which the

@@ -1,4 +1,4 @@
-// What a seat at the lock's table knows, the rule of the table, and what each step tells.
+//! What a seat at the lock's table knows, the rule of the table, and what each step tells.
 ghost use Rattle.std.specs.Prelude.{[]};
 ghost use Rattle.turn_lock.specs.View.{start_of, fresh, first_view, rejoined};
 ghost use Rattle.turn_lock.specs.Rule.{Kept, took, counted, added, gave, drew};

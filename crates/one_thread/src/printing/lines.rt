@@ -1,3 +1,4 @@
+//! The printed lines of attempts and tables.
 ghost use Rattle.std.specs.Prelude.{◌≡◌, ◌++◌, ◌∷◌, [], OnOk, codes, decimal, flat_map, map};
 ghost use Rattle.one_thread.specs.Text.{abort_words, fault_word, line, outcome_words, table_text, value_text};
 

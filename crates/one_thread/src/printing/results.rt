@@ -1,3 +1,4 @@
+//! The printed lines of what a statement gave.
 ghost use Rattle.std.specs.Prelude.{◌≡◌, ◌++◌, ◌∷◌, [], OnOk, codes, decimal, flat_map, map};
 ghost use Rattle.sql_base.specs.Rows.{unpacked};
 ghost use Rattle.one_thread.specs.Text.{given_text, givens_text, line, value_text, values_of};

@@ -1,3 +1,4 @@
+//! The printed words and numbers of a line.
 ghost use Rattle.std.specs.Prelude.{◌≡◌, ◌<◌, ◌++◌, ◌∷◌, [], OnOk, decimal, flat_map};
 ghost use Rattle.one_thread.specs.Text.{hex_digit, int_text, key_text, quoted, value_text};
 
