@@ -1,6 +1,9 @@
 //! The journal: the stamps in whose order transactions commit.
 #![tactic(auto)]
 
+mod journals;
+
+pub use journals::{CommitFault, Journal};
 use sql_base::TxnName;
 
 /// A commit that was drawn: the transaction, the floor that it asked with, and its stamp.

@@ -16,13 +16,14 @@ use Rattle.run_record.specs.Openings.{history_of, log_of, openings}
 use Rattle.run_record.specs.declared.records.RunRecord.{RunRecord}
 use Rattle.partition_laws.proofs.OpenerLaws.{syncs_rise}
 use Rattle.state_facts.proofs.Openings.{opened-fresh}
-use Rattle.record_laws.specs.SoFar.{LegalSoFar, Sending, Sends, Draws, UnderWay, unanswered, way_of}
+use Rattle.record_laws.specs.SoFar.{LegalSoFar, way_of}
 use Rattle.record_laws.proofs.Completing.{open_entry}
 use Rattle.record_laws.proofs.FitsSoFar.{zip_at}
 use Rattle.record_laws.proofs.Lists.{all_joined, all_through, all_weaker}
 use Rattle.record_laws.proofs.Sessions.{by_opener}
 use Rattle.driver_laws.specs.Gathering.{Gathered, HasEntry, IsAskedIn, IsHeard, SyncsClimb}
 use Rattle.driver_laws.specs.Moves.{IsPosted, asked_so_far}
+use Rattle.session_grammar.specs.UnderWay.{Sending, Awaiting, Drawing, UnderWay, unanswered}
 use Rattle.driver_laws.proofs.Gathering.{gathered}
 use Rattle.driver_laws.proofs.Journals.{stamps_gathered}
 use Rattle.driver_laws.proofs.Seats.{contains_filter}
@@ -85,8 +86,8 @@ module _ (script : Script) (kept : RunRecord) (ways : List UnderWay) (g : Gather
       of (s ∷ sends) = ((λ here. tt), of sends)
 
       not_told : (way : UnderWay) → AllByRecursion (λ z. is_for part z ≡ true → HasEntry es z) (unanswered way)
-      not_told (Sends sends) = of sends
-      not_told (Draws name floor) = tt
+      not_told (Awaiting sends) = of sends
+      not_told (Drawing name floor) = tt
 
   joined : AreServed (filter (is_for part) (asked_so_far kept ways session)) es
   joined =

@@ -9,7 +9,7 @@ use Rattle.sql_base.specs.Scripts.{IsScript, Lies}
 use Rattle.sql_base.specs.Tables.{all_differ}
 use Rattle.sql_base.specs.declared.scripts.Script.{Script}
 use Rattle.commit_journal.specs.declared.Drawn.{Drawn}
-use Rattle.session_grammar.specs.Follows.{requester, works_of}
+use Rattle.session_grammar.specs.Follows.{asker, works_of}
 use Rattle.session_grammar.specs.declared.logs.Answer.TheVariants.{Reply, PathFailed, Stamp}
 use Rattle.session_grammar.specs.declared.logs.LogEntry.{LogEntry}
 use Rattle.session_grammar.specs.declared.logs.LogEntry.TheVariants.{Asked, Drew}
@@ -17,7 +17,8 @@ use Rattle.run_record.specs.Legal.{StampsDrawn, StampsOfLogRise, drawn_in}
 use Rattle.commit_journal.specs.Journal.{StampsRise}
 use Rattle.run_record.specs.Openings.{log_of}
 use Rattle.run_record.specs.declared.records.RunRecord.{RunRecord}
-use Rattle.record_laws.specs.SoFar.{Begins, IsWith, LogsSoFar, Merges, Sends, Draws, UnderWay, way_of}
+use Rattle.record_laws.specs.SoFar.{LogsSoFar, way_of}
+use Rattle.session_grammar.specs.UnderWay.{BeginsWith, IsWith, Merges, Awaiting, Drawing, UnderWay}
 use Rattle.record_laws.proofs.Attempts.{attempts_counted}
 use Rattle.record_laws.proofs.Completing.{filled_merges}
 use Rattle.record_laws.proofs.Drawing.{Later, Rising, drawn-append, drawn_rising}
@@ -100,20 +101,20 @@ rising_front : (xs ys : List Drawn) → Rising (xs ++ ys) → Rising xs
 rising_front [] ys h = tt
 rising_front (x ∷ xs) ys h = (all_first (Later x) xs ys h.0, rising_front xs ys h.1)
 
-log_rising : (script : Script) (session : ℕ) (log : List LogEntry) (way : UnderWay) → Begins script session way log → Rising (drawn_in log)
+log_rising : (script : Script) (session : ℕ) (log : List LogEntry) (way : UnderWay) → BeginsWith script session way log → Rising (drawn_in log)
 log_rising script session log way begins = by_way way begins.2
   where
     whole_rising : Rising (drawn_in begins.0)
     whole_rising =
-        let r = requester script session in
+        let r = asker script session in
         let reads = begins.3.1 in
         let own = attempts_counted r 1 (works_of script session) begins.3.0 reads.attempts_are in
         let all = (drawn_rising r 1 begins.3.0 own.0 own.1).1 in
         rising_front (drawn_in begins.0) (drawn_in begins.1) (subst Rising (ap drawn_in (sym reads.entries) ∙ drawn-append begins.0 begins.1) all)
 
     by_way : (w : UnderWay) → IsWith w log begins.0 → Rising (drawn_in log)
-    by_way (Sends sends) h = merged_rising log h.answered begins.0 (filled_merges sends log begins.0 h) whole_rising
-    by_way (Draws name floor) h = rising_front (drawn_in log) _ (subst Rising (ap drawn_in h.1 ∙ drawn-append log (Drew name floor (Stamp h.0) ∷ [])) whole_rising)
+    by_way (Awaiting sends) h = merged_rising log h.answered begins.0 (filled_merges sends log begins.0 h) whole_rising
+    by_way (Drawing name floor) h = rising_front (drawn_in log) _ (subst Rising (ap drawn_in h.1 ∙ drawn-append log (Drew name floor (Stamp h.0) ∷ [])) whole_rising)
 
 -- so no name stands in the journal twice
 names_differ : (sessions : ℕ) (ds : List Drawn) → AllByRecursion (λ d. Lies 1 sessions d.name.session) ds → ((s : ℕ) → Lies 1 sessions s → Rising (filter (is_of s) ds)) → all_differ same_txn (map (λ (d : Drawn). d.name) ds) ≡ true

@@ -21,13 +21,14 @@ use Rattle.run_record.specs.Legal.{AreServed, StampsDrawn, StampsOfLogRise, draw
 use Rattle.run_record.specs.Openings.{history_of, log_of, openings}
 use Rattle.run_record.specs.declared.records.RunRecord.{RunRecord}
 use Rattle.state_facts.proofs.Openings.{opened-fresh}
-use Rattle.record_laws.specs.SoFar.{AreAbove, LegalSoFar, Sending, Sends, Draws, UnderWay, unanswered, way_of}
+use Rattle.record_laws.specs.SoFar.{LegalSoFar, way_of}
 use Rattle.commit_journal.specs.Journal.{last_stamp}
 use Rattle.record_laws.proofs.Drawing.{not_drawn}
 use Rattle.record_laws.proofs.FitsSoFar.{zip_at}
 use Rattle.record_laws.proofs.Lists.{all_joined, all_slice, all_through, all_weaker}
 use Rattle.record_laws.proofs.Sessions.{by_opener}
-use Rattle.driver_laws.specs.Moves.{Asks, IsNext, IsPosted, MayAnswer, Stamps, Takes, asked_so_far, next_drawn, with_drawn, with_entry, with_log, with_way}
+use Rattle.driver_laws.specs.Moves.{IsNext, IsPosted, MayAnswer, asked_so_far, next_drawn, with_drawn, with_entry, with_log, with_way}
+use Rattle.session_grammar.specs.UnderWay.{AreAbove, Sending, Awaiting, Drawing, UnderWay, unanswered, Asks, TakesStamp, TakesAnswer}
 use Rattle.driver_laws.proofs.Openings.{still_served}
 use Rattle.driver_laws.proofs.Seats.{all_set, all_zip_set, contains_filter, length_set, seat_other, seat_same}
 use Rattle.driver_laws.proofs.Serving.{IsEarlier, asked_rises, legal_more, new_later, serves_new}
@@ -126,10 +127,10 @@ module _ (script : Script) (kept : RunRecord) (ways : List UnderWay) (legal : Le
   -- the session goes on by itself: its log and what it has under way
   module _ (log : List LogEntry) (way : UnderWay) (journal : List Drawn) where
     own_way : (s : ℕ) → s - 1 ≡ session - 1 → way_of (with_way ways session way) s ≡ way
-    own_way s same = subst (λ n. unwrap_or (slice_get (slice_set ways (session - 1) way) n) (Sends []) ≡ way) (sym same) (seat_same (Sends []) ways (session - 1) way in_ways)
+    own_way s same = subst (λ n. unwrap_or (slice_get (slice_set ways (session - 1) way) n) (Awaiting []) ≡ way) (sym same) (seat_same (Awaiting []) ways (session - 1) way in_ways)
 
     other_way : (s : ℕ) → s - 1 ≢ session - 1 → way_of (with_way ways session way) s ≡ way_of ways s
-    other_way s differ = seat_other (Sends []) ways (session - 1) (s - 1) way differ
+    other_way s differ = seat_other (Awaiting []) ways (session - 1) (s - 1) way differ
 
     same_place : (s : ℕ) → Lies 1 (length script.sessions) s → s - 1 ≡ session - 1 → s ≡ session
     same_place s ls same = omega (arith, ls.0, lies.0, same)
@@ -175,7 +176,7 @@ module _ (script : Script) (kept : RunRecord) (ways : List UnderWay) (legal : Le
             (subst (λ (l : List LogEntry). Asks script s l (way_of ways s)) (sym (other_log kept session log journal in_logs s differ)) (legal.logs_begin.each s ls))
 
   -- its commit is drawn
-  pub drawn : (name : TxnName) (floor : ℕ) (log : List LogEntry) (way : UnderWay) → way_of ways session ≡ Draws name floor → Stamps script session (log_of kept session) (next_drawn kept name floor) log way
+  pub drawn : (name : TxnName) (floor : ℕ) (log : List LogEntry) (way : UnderWay) → way_of ways session ≡ Drawing name floor → TakesStamp script session (log_of kept session) (next_drawn kept name floor) log way
       → LegalSoFar script (with_drawn (with_log kept session log) (next_drawn kept name floor)) (with_way ways session way)
   drawn name floor log way is h =
       session_moved log way (kept.journal ++ d ∷ []) (stamps_more kept session log d in_logs more refl (not_drawn script kept ways legal session name floor lies is) legal.stamps_drawn) h.asks served
@@ -196,8 +197,8 @@ module _ (script : Script) (kept : RunRecord) (ways : List UnderWay) (legal : Le
           (still_served part (filter (is_for part) log) way (filter (by_opener session) (history_of kept part)) (subst (λ (xs : List LogEntry). AreServed xs (filter (by_opener session) (history_of kept part))) (sym same) plain))
 
   -- a request under way is answered, with the reply of its entry or because its path failed
-  pub taken : (sends : List Sending) (s : Sending) (losses : ℕ) (answer : Answer) (log : List LogEntry) (way : UnderWay) → way_of ways session ≡ Sends sends → Contains sends s → MayAnswer kept session s losses answer
-      → Takes script session (log_of kept session) sends s losses answer log way → LegalSoFar script (with_log kept session log) (with_way ways session way)
+  pub taken : (sends : List Sending) (s : Sending) (losses : ℕ) (answer : Answer) (log : List LogEntry) (way : UnderWay) → way_of ways session ≡ Awaiting sends → Contains sends s → MayAnswer kept session s losses answer
+      → TakesAnswer script session (log_of kept session) sends s losses answer log way → LegalSoFar script (with_log kept session log) (with_way ways session way)
   taken sends s losses answer log way is is_in may h = session_moved log way kept.journal (stamps_still kept session log in_logs same legal.stamps_drawn) h.asks served
     where
       same : drawn_in log ≡ drawn_in (log_of kept session)

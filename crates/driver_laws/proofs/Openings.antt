@@ -11,12 +11,11 @@ use Rattle.session_grammar.specs.declared.logs.Answer.TheVariants.{Reply, PathFa
 use Rattle.session_grammar.specs.declared.logs.LogEntry.{LogEntry}
 use Rattle.session_grammar.specs.declared.logs.LogEntry.TheVariants.{Asked, Drew}
 use Rattle.run_record.specs.Legal.{AreServed}
-use Rattle.record_laws.specs.SoFar.{AreAbove, Sending, Sends, Draws, UnderWay, unanswered}
+use Rattle.session_grammar.specs.UnderWay.{AreAbove, Sending, Awaiting, Drawing, UnderWay, unanswered, IsOpen}
 use Rattle.record_laws.proofs.Completing.{open_entry}
 use Rattle.record_laws.proofs.Driving.{served_join}
 use Rattle.record_laws.proofs.Lists.{all_filter}
 use Rattle.record_laws.proofs.Served.{unserved}
-use Rattle.driver_laws.specs.Moves.{IsOpen}
 
 abbrev parts : List Sending → List ℕ
 parts sends = map (λ (s : Sending). s.part) sends
@@ -25,18 +24,18 @@ parts sends = map (λ (s : Sending). s.part) sends
 abbrev pub open_for : ℕ → UnderWay → List LogEntry
 open_for part way = filter (is_for part) (unanswered way)
 
-none_for : (part : ℕ) (sends : List Sending) → list_any (nat_eq part) (parts sends) ≡ false → open_for part (Sends sends) ≡ []
+none_for : (part : ℕ) (sends : List Sending) → list_any (nat_eq part) (parts sends) ≡ false → open_for part (Awaiting sends) ≡ []
 none_for part [] h = refl
 none_for part (s ∷ sends) h =
     let two = or_parts (nat_eq part s.part) (list_any (nat_eq part) (parts sends)) h in
     rw (ne_eqb s.part part (λ same. false≢true (sym two.0 ∙ eq-eqb part s.part (sym same)))) (none_for part sends two.1)
 
 -- a request under way is the only one for its partition
-one_open : (s : Sending) (sends : List Sending) (k : ℕ) → k < length sends → get_or sends k s ≡ s → all_differ nat_eq (parts sends) ≡ true → open_for s.part (Sends sends) ≡ open_entry s ∷ []
+one_open : (s : Sending) (sends : List Sending) (k : ℕ) → k < length sends → get_or sends k s ≡ s → all_differ nat_eq (parts sends) ≡ true → open_for s.part (Awaiting sends) ≡ open_entry s ∷ []
 one_open s [] k lt is h = absurd (omega (arith, lt))
 one_open s (x ∷ sends) zero lt is h =
     let two = and_parts _ _ h in
-    let none : open_for s.part (Sends sends) ≡ [] = none_for s.part sends (subst (λ n. list_any (nat_eq n) (parts sends) ≡ false) (ap (λ (y : Sending). y.part) is) (not-true _ two.0)) in
+    let none : open_for s.part (Awaiting sends) ≡ [] = none_for s.part sends (subst (λ n. list_any (nat_eq n) (parts sends) ≡ false) (ap (λ (y : Sending). y.part) is) (not-true _ two.0)) in
     rw (eq-eqb x.part s.part (ap (λ (y : Sending). y.part) is)) (cc (is, none))
 one_open s (x ∷ sends) (suc k) lt is h =
     let two = and_parts _ _ h in
@@ -52,16 +51,16 @@ one_open s (x ∷ sends) (suc k) lt is h =
         differs n sends k (omega (arith, lt)) is two.1 same
 
 pub the_open : (log : List LogEntry) (way : UnderWay) (s : Sending) → AreAbove log way → IsOpen way s → open_for s.part way ≡ open_entry s ∷ []
-the_open log (Sends sends) s above is_in = one_open s sends is_in.0 is_in.1 is_in.2 above.1
-the_open log (Draws name floor) s above is_in = absurd is_in
+the_open log (Awaiting sends) s above is_in = one_open s sends is_in.0 is_in.1 is_in.2 above.1
+the_open log (Drawing name floor) s above is_in = absurd is_in
 
 -- a partition has none of them, or one
-pub none_or_one : (part : ℕ) (sends : List Sending) → (open_for part (Sends sends) ≡ []) ⊎ ((s : Sending) × Contains sends s × (s.part ≡ part))
+pub none_or_one : (part : ℕ) (sends : List Sending) → (open_for part (Awaiting sends) ≡ []) ⊎ ((s : Sending) × Contains sends s × (s.part ≡ part))
 none_or_one part [] = inl refl
 none_or_one part (s ∷ sends) = elim (cases_eq s.part part) [ inl same ↦ inr (s, (zero, omega arith, refl), same) | inr differ ↦ later differ (none_or_one part sends) ]
   where
-    later : s.part ≢ part → (open_for part (Sends sends) ≡ []) ⊎ ((x : Sending) × Contains sends x × (x.part ≡ part))
-        → (open_for part (Sends (s ∷ sends)) ≡ []) ⊎ ((x : Sending) × Contains (s ∷ sends) x × (x.part ≡ part))
+    later : s.part ≢ part → (open_for part (Awaiting sends) ≡ []) ⊎ ((x : Sending) × Contains sends x × (x.part ≡ part))
+        → (open_for part (Awaiting (s ∷ sends)) ≡ []) ⊎ ((x : Sending) × Contains (s ∷ sends) x × (x.part ≡ part))
     later differ (inl none) = inl (rw (ne_eqb s.part part differ) none)
     later differ (inr h) = inr (h.0, (suc h.1.0, omega (arith, h.1.1), h.1.2), h.2)
 
@@ -78,12 +77,12 @@ none_served (Asked p s q l (Stamp stamp) ∷ xs) h = absurd h.0
 none_served (Drew n f w ∷ xs) h = absurd h.0
 
 all_unanswered : (way : UnderWay) → AllByRecursion IsUnanswered (unanswered way)
-all_unanswered (Sends sends) = of sends
+all_unanswered (Awaiting sends) = of sends
   where
     of : (sends : List Sending) → AllByRecursion IsUnanswered (map open_entry sends)
     of [] = tt
     of (s ∷ sends) = (tt, of sends)
-all_unanswered (Draws name floor) = tt
+all_unanswered (Drawing name floor) = tt
 
 pub still_served : (part : ℕ) (log : List LogEntry) (way : UnderWay) (es : List Entry) → AreServed log es → AreServed (log ++ open_for part way) es
 still_served part log way es h =

@@ -28,7 +28,7 @@ use Rattle.partition_laws.proofs.Openers.{seat-set}
 use Rattle.partition_laws.proofs.Stepped.{IsNew, answer_to, replied-new}
 use Rattle.partition_laws.proofs.Steps.{Keeps-answered, Keeps-step}
 use Rattle.state_facts.proofs.Openings.{opened-fresh}
-use Rattle.record_laws.specs.SoFar.{AreAbove, IsAbove, LegalSoFar, Sending, Sends, Draws, UnderWay, unanswered, way_of}
+use Rattle.record_laws.specs.SoFar.{LegalSoFar, way_of}
 use Rattle.record_laws.proofs.FitsSoFar.{IsFresh, found_of, fresh_from, zip_at}
 use Rattle.record_laws.specs.Standing.{PlansSuit}
 use Rattle.record_laws.proofs.Joined.{sends_fit-so_far}
@@ -36,7 +36,8 @@ use Rattle.record_laws.proofs.Lists.{all_at, all_joined, all_through, all_weaker
 use Rattle.record_laws.proofs.Served.{served_all}
 use Rattle.record_laws.proofs.Sessions.{by_opener}
 use Rattle.driver_laws.specs.Scheduling.{is_old, posted_of}
-use Rattle.driver_laws.specs.Moves.{IsOpen, MayAnswer, asked_so_far}
+use Rattle.driver_laws.specs.Moves.{MayAnswer, asked_so_far}
+use Rattle.session_grammar.specs.UnderWay.{AreAbove, IsAbove, Sending, Awaiting, Drawing, UnderWay, unanswered, IsOpen}
 use Rattle.driver_laws.proofs.Openings.{open_for, the_open}
 use Rattle.driver_laws.proofs.Seats.{contains_filter}
 
@@ -124,14 +125,14 @@ module _ (script : Script) (kept : RunRecord) (ways : List UnderWay) (legal : Le
   never_passed s here is_open = of its_last
     where
       up_to : (way : UnderWay) → AreAbove (log_of kept session) way → IsOpen way s → AllByRecursion (IsUpTo s.sync) (filter (is_for s.part) (log_of kept session ++ unanswered way))
-      up_to (Draws name floor) above none = absurd none
-      up_to (Sends sends) above is_in =
+      up_to (Drawing name floor) above none = absurd none
+      up_to (Awaiting sends) above is_in =
           let log = log_of kept session in
           let below = all_at (λ (x : Sending). AllByRecursion (λ e. IsAbove e x) log) s sends is_in above.0 in
           let front = all_through (is_for s.part) (IsUpTo s.sync) log (all_weaker (λ e. IsAbove e s) (λ e. is_for s.part e ≡ true → IsUpTo s.sync e) of_one log below) in
-          let alone = the_open log (Sends sends) s above is_in in
-          subst (AllByRecursion (IsUpTo s.sync)) (sym (filter-append (is_for s.part) log (unanswered (Sends sends))))
-          (all_joined (IsUpTo s.sync) (filter (is_for s.part) log) (open_for s.part (Sends sends)) front (subst (AllByRecursion (IsUpTo s.sync)) (sym alone) (omega arith, tt)))
+          let alone = the_open log (Awaiting sends) s above is_in in
+          subst (AllByRecursion (IsUpTo s.sync)) (sym (filter-append (is_for s.part) log (unanswered (Awaiting sends))))
+          (all_joined (IsUpTo s.sync) (filter (is_for s.part) log) (open_for s.part (Awaiting sends)) front (subst (AllByRecursion (IsUpTo s.sync)) (sym alone) (omega arith, tt)))
         where
           of_one : (e : LogEntry) → IsAbove e s → is_for s.part e ≡ true → IsUpTo s.sync e
           of_one (Asked a x q l w) above for_it = let lt = above (eqb-true a s.part for_it) in omega (arith, lt)
@@ -180,6 +181,6 @@ module _ (script : Script) (kept : RunRecord) (ways : List UnderWay) (legal : Le
 
 -- the reply of the entry of a request under way fits it
 pub answer_fits : (script : Script) (kept : RunRecord) (ways : List UnderWay) → PlansSuit script → LegalSoFar script kept ways → (session : ℕ) → Lies 1 (length script.sessions) session → (sends : List Sending) (s : Sending) (r : PartitionReply)
-    → way_of ways session ≡ Sends sends → Contains sends s → s.part < length kept.histories → (losses : ℕ) → MayAnswer kept session s losses (Reply r) → fits s.request.ask r ≡ true
+    → way_of ways session ≡ Awaiting sends → Contains sends s → s.part < length kept.histories → (losses : ℕ) → MayAnswer kept session s losses (Reply r) → fits s.request.ask r ≡ true
 answer_fits script kept ways plans legal session lies sends s r is is_in within losses may =
     subst (λ reply. fits s.request.ask reply ≡ true) may.4 (sends_fit-so_far script kept ways plans legal session sends s may.0 lies is is_in within may.1 may.2 may.3)

@@ -13,9 +13,10 @@ use Rattle.session_grammar.specs.declared.logs.LogEntry.{LogEntry}
 use Rattle.session_grammar.specs.declared.logs.LogEntry.TheVariants.{Asked, Drew}
 use Rattle.run_record.specs.Openings.{log_of}
 use Rattle.run_record.specs.declared.records.RunRecord.{RunRecord}
-use Rattle.record_laws.specs.SoFar.{AreAbove, LegalSoFar, Sending, Sends, Draws, UnderWay, unanswered, way_of}
+use Rattle.record_laws.specs.SoFar.{LegalSoFar, way_of}
 use Rattle.record_laws.proofs.Completing.{open_entry}
-use Rattle.driver_laws.specs.Moves.{IsOpen, IsPosted, IsPutIn, Stamps, Takes, next_drawn, with_drawn, with_log, with_way}
+use Rattle.driver_laws.specs.Moves.{IsPosted, next_drawn, with_drawn, with_log, with_way}
+use Rattle.session_grammar.specs.UnderWay.{AreAbove, Sending, Awaiting, Drawing, UnderWay, unanswered, IsOpen, IsPutIn, TakesStamp, TakesAnswer}
 use Rattle.driver_laws.proofs.Openings.{open_for, the_open}
 use Rattle.driver_laws.proofs.Seats.{one_other, one_same}
 
@@ -30,8 +31,8 @@ to_open (s ∷ sends) x zero lt is = (zero, omega arith, ap open_entry is)
 to_open (s ∷ sends) x (suc k) lt is = let r = to_open sends x k (omega (arith, lt)) is in (suc r.0, omega (arith, r.1), r.2)
 
 open_asked : (way : UnderWay) (x : Sending) → IsOpen way x → Contains (unanswered way) (open_entry x)
-open_asked (Sends sends) x h = to_open sends x h.0 h.1 h.2
-open_asked (Draws name floor) x h = absurd h
+open_asked (Awaiting sends) x h = to_open sends x h.0 h.1 h.2
+open_asked (Drawing name floor) x h = absurd h
 
 -- what a log with what is under way asks
 abbrev Asks : List LogEntry → UnderWay → ℕ → ℕ → Request → Type 0
@@ -46,9 +47,9 @@ put_front front back entry z h =
 
 module _ (part sync : ℕ) (request : Request) where
   -- a request under way is answered
-  asks_taken : (log after : List LogEntry) (sends : List Sending) (way : UnderWay) (s : Sending) (losses : ℕ) (answer : Answer) → Contains sends s → AreAbove log (Sends sends)
+  asks_taken : (log after : List LogEntry) (sends : List Sending) (way : UnderWay) (s : Sending) (losses : ℕ) (answer : Answer) → Contains sends s → AreAbove log (Awaiting sends)
       → IsPutIn s.part (Asked s.part s.sync s.request losses answer) log after → ((other : Sending) → Contains sends other → other.part ≢ s.part → IsOpen way other)
-      → Asks log (Sends sends) part sync request → Asks after way part sync request
+      → Asks log (Awaiting sends) part sync request → Asks after way part sync request
   asks_taken log after sends way s losses answer is_in above put stay h =
       elim (Contains-append_cases log (map open_entry sends) (Asked part sync request h.0 h.1) h.2) [
         | inl old ↦ (h.0, h.1, Contains-append_left after (unanswered way) (Asked part sync request h.0 h.1) (from_log (Asked part sync request h.0 h.1) old))
@@ -69,9 +70,9 @@ module _ (part sync : ℕ) (request : Request) where
         where
           of_it : o.0.part ≡ s.part → Asks after way part sync request
           of_it same =
-              let own = the_open log (Sends sends) s above is_in in
-              let other = the_open log (Sends sends) o.0 above o.1 in
-              let both : open_entry s ∷ [] ≡ open_entry o.0 ∷ [] = sym own ∙ ap (λ n. open_for n (Sends sends)) (sym same) ∙ other in
+              let own = the_open log (Awaiting sends) s above is_in in
+              let other = the_open log (Awaiting sends) o.0 above o.1 in
+              let both : open_entry s ∷ [] ≡ open_entry o.0 ∷ [] = sym own ∙ ap (λ n. open_for n (Awaiting sends)) (sym same) ∙ other in
               let z : open_entry s ≡ Asked part sync request h.0 h.1 = cc (both, o.2) in
               let parts : s.part ≡ part = cc z in
               let syncs : s.sync ≡ sync = cc z in
@@ -93,25 +94,25 @@ module _ (script : Script) (kept : RunRecord) (ways : List UnderWay) (legal : Le
       at_own same =
           let now = own (subst (λ m. Asks (log_of kept m) (way_of ways m) part sync request) same h) in
           subst (λ m. Asks (log_of (with_log kept session log) m) (way_of (with_way ways session way) m) part sync request) (sym same)
-          (subst (λ (w : UnderWay). Asks (log_of (with_log kept session log) session) w part sync request) (sym (one_same (Sends []) session (length script.sessions) ways way lies many))
+          (subst (λ (w : UnderWay). Asks (log_of (with_log kept session log) session) w part sync request) (sym (one_same (Awaiting []) session (length script.sessions) ways way lies many))
           (subst (λ (es : List LogEntry). Asks es way part sync request) (sym (one_same [] session (length script.sessions) kept.logs log lies legal.logs_begin.logs)) now))
 
       elsewhere : n ≢ session → Asks (log_of (with_log kept session log) n) (way_of (with_way ways session way) n) part sync request
       elsewhere differ =
-          subst (λ (w : UnderWay). Asks (log_of (with_log kept session log) n) w part sync request) (sym (one_other (Sends []) session n (length script.sessions) ways way lies lies_too differ))
+          subst (λ (w : UnderWay). Asks (log_of (with_log kept session log) n) w part sync request) (sym (one_other (Awaiting []) session n (length script.sessions) ways way lies lies_too differ))
           (subst (λ (es : List LogEntry). Asks es (way_of ways n) part sync request) (sym (one_other [] session n (length script.sessions) kept.logs log lies lies_too differ)) h)
 
-  pub posted_taken : (sends : List Sending) (s : Sending) (losses : ℕ) (answer : Answer) → way_of ways session ≡ Sends sends → Contains sends s → Takes script session (log_of kept session) sends s losses answer log way
+  pub posted_taken : (sends : List Sending) (s : Sending) (losses : ℕ) (answer : Answer) → way_of ways session ≡ Awaiting sends → Contains sends s → TakesAnswer script session (log_of kept session) sends s losses answer log way
       → IsPosted kept ways n part sync request → IsPosted (with_log kept session log) (with_way ways session way) n part sync request
   posted_taken sends s losses answer is is_in takes =
       posted_still (λ h. asks_taken part sync request (log_of kept session) log sends way s losses answer is_in (subst (AreAbove (log_of kept session)) is (legal.logs_begin.each session lies).0) takes.put_in takes.stay
       (subst (λ (w : UnderWay). Asks (log_of kept session) w part sync request) is h))
 
-  pub posted_drawn : (name : TxnName) (floor : ℕ) → way_of ways session ≡ Draws name floor → Stamps script session (log_of kept session) (next_drawn kept name floor) log way
+  pub posted_drawn : (name : TxnName) (floor : ℕ) → way_of ways session ≡ Drawing name floor → TakesStamp script session (log_of kept session) (next_drawn kept name floor) log way
       → IsPosted kept ways n part sync request → IsPosted (with_drawn (with_log kept session log) (next_drawn kept name floor)) (with_way ways session way) n part sync request
   posted_drawn name floor is stamps = posted_still (λ h. drew (subst (λ (w : UnderWay). Asks (log_of kept session) w part sync request) is h))
     where
-      drew : Asks (log_of kept session) (Draws name floor) part sync request → Asks log way part sync request
+      drew : Asks (log_of kept session) (Drawing name floor) part sync request → Asks log way part sync request
       drew h =
           let it = Asked part sync request h.0 h.1 in
           let old : Contains (log_of kept session) it = elim (Contains-append_cases (log_of kept session) [] it h.2) [ inl a ↦ a | inr b ↦ absurd (omega (arith, b.1)) ] in

@@ -30,6 +30,7 @@ module _ (q : Request) (r : PartitionReply) where
   lost_once =
       record {
         histories = (entry 1 ∷ []) ∷ [];
+        rows = [];
         journal = [];
         logs = (asked 1 ∷ []) ∷ [];
         acts = Send 1 0 1 LoseReply ∷ Send 1 0 1 Repeat ∷ Serve 0 1 1 ∷ Take 1 ∷ Serve 0 1 1 ∷ Serve 0 1 1 ∷ [];
@@ -40,6 +41,7 @@ module _ (q : Request) (r : PartitionReply) where
   second_first =
       record {
         histories = (entry 2 ∷ entry 1 ∷ []) ∷ [];
+        rows = [];
         journal = [];
         logs = (asked 0 ∷ []) ∷ (asked 0 ∷ []) ∷ [];
         acts = Send 2 0 1 Carry ∷ Send 1 0 1 Carry ∷ Serve 0 2 1 ∷ Take 2 ∷ Serve 0 1 1 ∷ Take 1 ∷ [];
@@ -47,11 +49,11 @@ module _ (q : Request) (r : PartitionReply) where
 
   -- a message is served that nobody posted
   abbrev pub unposted : RunRecord
-  unposted = record { histories = (entry 1 ∷ []) ∷ []; journal = []; logs = (asked 0 ∷ []) ∷ []; acts = Serve 0 1 1 ∷ Send 1 0 1 Carry ∷ Take 1 ∷ [] }
+  unposted = record { histories = (entry 1 ∷ []) ∷ []; rows = []; journal = []; logs = (asked 0 ∷ []) ∷ []; acts = Serve 0 1 1 ∷ Send 1 0 1 Carry ∷ Take 1 ∷ [] }
 
   -- the second copy is left in the mail
   abbrev pub left_over : RunRecord
-  left_over = record { histories = (entry 1 ∷ []) ∷ []; journal = []; logs = (asked 0 ∷ []) ∷ []; acts = Send 1 0 1 Repeat ∷ Serve 0 1 1 ∷ Take 1 ∷ [] }
+  left_over = record { histories = (entry 1 ∷ []) ∷ []; rows = []; journal = []; logs = (asked 0 ∷ []) ∷ []; acts = Send 1 0 1 Repeat ∷ Serve 0 1 1 ∷ Take 1 ∷ [] }
 
   abbrev pub IsIt : RunRecord → List ℕ → Type 0
   IsIt kept choices = Scheduled choices kept

@@ -21,13 +21,12 @@ use Rattle.session_grammar.specs.declared.logs.LogEntry.TheVariants.{Asked, Drew
 use Rattle.run_record.specs.Legal.{AreServed, IsServed}
 use Rattle.partition_laws.specs.Keeping.{Keeps}
 use Rattle.partition_laws.proofs.OpenerLaws.{syncs_rise}
-use Rattle.record_laws.specs.SoFar.{AreAbove, Begins, IsAbove, IsWith, Merges, Sending, Sends, Draws, UnderWay, unanswered}
+use Rattle.session_grammar.specs.UnderWay.{AreAbove, BeginsWith, IsAbove, IsWith, Merges, Sending, Awaiting, Drawing, UnderWay, unanswered, Asks}
 use Rattle.record_laws.proofs.Completing.{filled_merges, merged_first, open_entry}
 use Rattle.record_laws.proofs.Driving.{served_join}
 use Rattle.record_laws.proofs.Lists.{all_at, all_filter, all_joined, all_through, all_weaker}
 use Rattle.record_laws.proofs.Served.{served_all, served_split}
 use Rattle.driver_laws.specs.Gathering.{Climbs, IsOver}
-use Rattle.driver_laws.specs.Moves.{Asks}
 use Rattle.driver_laws.proofs.Openings.{none_or_one, open_for, the_open}
 
 -- what was asked has this sync or a later one
@@ -120,15 +119,15 @@ merged_rises xs ys (Drew x f w ∷ zs) (inl m) h = subst Climbs (sym m.1) (merge
 merged_rises xs ys (Drew x f w ∷ zs) (inr m) h = merged_rises xs m.0 zs m.2 h
 
 -- those of a log with something under way
-log_rises : (script : Script) (session : ℕ) (log : List LogEntry) (way : UnderWay) → Begins script session way log → Climbs log
+log_rises : (script : Script) (session : ℕ) (log : List LogEntry) (way : UnderWay) → BeginsWith script session way log → Climbs log
 log_rises script session log way begins = by_way way begins.2
   where
     whole_rises : Climbs begins.0
     whole_rises = counts_rise 1 begins.0 (syncs_front 1 begins.0 begins.1 begins.3.1.syncs)
 
     by_way : (w : UnderWay) → IsWith w log begins.0 → Climbs log
-    by_way (Sends sends) h = merged_rises log h.answered begins.0 (filled_merges sends log begins.0 h) whole_rises
-    by_way (Draws name floor) h = rises_front log _ (subst Climbs h.1 whole_rises)
+    by_way (Awaiting sends) h = merged_rises log h.answered begins.0 (filled_merges sends log begins.0 h) whole_rises
+    by_way (Drawing name floor) h = rises_front log _ (subst Climbs h.1 whole_rises)
 
 rises_kept : (q : LogEntry → Bool) (x : LogEntry) (xs : List LogEntry) (b : Bool) → q x ≡ b → Climbs (x ∷ filter q xs) → Climbs (filter q xs) → Climbs (filter q (x ∷ xs))
 rises_kept q x xs true e with_it rest = rw e with_it
@@ -164,14 +163,14 @@ asked_rises script session log way part h = subst Climbs (sym (filter-append (is
     nothing_more w none = subst (λ (es : List LogEntry). Climbs (filter (is_for part) log ++ es)) (sym none) (subst Climbs (sym (append-nil (filter (is_for part) log))) here)
 
     by_way : (w : UnderWay) → AreAbove log w → Climbs (filter (is_for part) log ++ open_for part w)
-    by_way (Draws name floor) above = nothing_more (Draws name floor) refl
-    by_way (Sends sends) above = by_open (none_or_one part sends)
+    by_way (Drawing name floor) above = nothing_more (Drawing name floor) refl
+    by_way (Awaiting sends) above = by_open (none_or_one part sends)
       where
-        by_open : (open_for part (Sends sends) ≡ []) ⊎ ((x : Sending) × Contains sends x × (x.part ≡ part)) → Climbs (filter (is_for part) log ++ open_for part (Sends sends))
-        by_open (inl none) = nothing_more (Sends sends) none
+        by_open : (open_for part (Awaiting sends) ≡ []) ⊎ ((x : Sending) × Contains sends x × (x.part ≡ part)) → Climbs (filter (is_for part) log ++ open_for part (Awaiting sends))
+        by_open (inl none) = nothing_more (Awaiting sends) none
         by_open (inr one) =
             let s = one.0 in
-            let alone : open_for part (Sends sends) ≡ open_entry s ∷ [] = subst (λ n. open_for n (Sends sends) ≡ open_entry s ∷ []) one.2 (the_open log (Sends sends) s above one.1) in
+            let alone : open_for part (Awaiting sends) ≡ open_entry s ∷ [] = subst (λ n. open_for n (Awaiting sends) ≡ open_entry s ∷ []) one.2 (the_open log (Awaiting sends) s above one.1) in
             let below = all_at (λ (x : Sending). AllByRecursion (λ e. IsAbove e x) log) s sends one.1 above.0 in
             let low = all_through (is_for part) (IsUpTo s.sync) log (all_weaker (λ e. IsAbove e s) (λ e. is_for part e ≡ true → IsUpTo s.sync e) (λ e a t. up_to s e one.2 a t) log below) in
             subst (λ (es : List LogEntry). Climbs (filter (is_for part) log ++ es)) (sym alone) (rises_more (filter (is_for part) log) s here low)

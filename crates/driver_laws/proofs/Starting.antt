@@ -18,9 +18,10 @@ use Rattle.run_record.specs.Legal.{AreServed, StampsOfLogRise, drawn_in}
 use Rattle.run_record.specs.Openings.{history_of, log_of, openings}
 use Rattle.run_record.specs.declared.records.Act.{Act}
 use Rattle.run_record.specs.declared.records.RunRecord.{RunRecord}
-use Rattle.record_laws.specs.SoFar.{LegalSoFar, Sending, Sends, UnderWay, unanswered, way_of}
+use Rattle.record_laws.specs.SoFar.{LegalSoFar, way_of}
 use Rattle.record_laws.proofs.Sessions.{by_opener}
-use Rattle.driver_laws.specs.Moves.{Asks, IsNext, IsPosted, Takes, nothing_yet, with_acts, with_entry, with_log, with_way}
+use Rattle.driver_laws.specs.Moves.{IsNext, IsPosted, nothing_yet, with_acts, with_entry, with_log, with_way}
+use Rattle.session_grammar.specs.UnderWay.{Sending, Awaiting, UnderWay, unanswered, Asks, TakesAnswer}
 use Rattle.driver_laws.proofs.Moving.{served, taken}
 use Rattle.driver_laws.proofs.Openings.{still_served}
 use Rattle.driver_laws.proofs.Seats.{seat_same}
@@ -83,7 +84,7 @@ other_acts script kept ways acts h =
 -- an End is served by hand, as a message is, and answered at once
 pub by_hand : (script : Script) (kept : RunRecord) (ways : List UnderWay) → LegalSoFar script kept ways → length ways ≡ length script.sessions → (e : Entry) → Lies 1 (length script.sessions) e.opener
     → (sends : List Sending) (s : Sending) (losses : ℕ) (log : List LogEntry) (way : UnderWay) → s.part < length kept.histories → IsNext script kept s.part e → IsPosted kept ways e.opener s.part e.sync e.request
-    → way_of ways e.opener ≡ Sends sends → Contains sends s → e.sync ≡ s.sync → Takes script e.opener (log_of kept e.opener) sends s losses (Reply e.reply) log way
+    → way_of ways e.opener ≡ Awaiting sends → Contains sends s → e.sync ≡ s.sync → TakesAnswer script e.opener (log_of kept e.opener) sends s losses (Reply e.reply) log way
     → LegalSoFar script (with_log (with_entry kept s.part e) e.opener log) (with_way ways e.opener way)
 by_hand script kept ways legal many e lies sends s losses log way within next posted is is_in same takes =
     taken script (with_entry kept s.part e) ways (served script kept ways legal s.part within e lies next posted) many e.opener lies sends s losses (Reply e.reply) log way is is_in

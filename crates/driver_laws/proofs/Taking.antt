@@ -13,11 +13,10 @@ use Rattle.session_grammar.specs.declared.logs.Answer.TheVariants.{Reply, PathFa
 use Rattle.session_grammar.specs.declared.logs.LogEntry.{LogEntry}
 use Rattle.session_grammar.specs.declared.logs.LogEntry.TheVariants.{Asked, Drew}
 use Rattle.run_record.specs.Legal.{AreServed}
-use Rattle.record_laws.specs.SoFar.{AreAbove, IsAbove, Sending, Sends, UnderWay, unanswered}
+use Rattle.session_grammar.specs.UnderWay.{AreAbove, IsAbove, Sending, Awaiting, UnderWay, unanswered, IsOpen, IsPutIn}
 use Rattle.record_laws.proofs.Completing.{open_entry}
 use Rattle.record_laws.proofs.Driving.{NotOf, taken_now}
 use Rattle.record_laws.proofs.Lists.{all_at, all_through, all_weaker}
-use Rattle.driver_laws.specs.Moves.{IsOpen, IsPutIn}
 use Rattle.driver_laws.proofs.Openings.{none_or_one, open_for, still_served, the_open}
 
 -- the entries for the partition, where one is put in
@@ -63,15 +62,15 @@ older_not part sync s log here is above =
     below (Drew n f w) a for_it = tt
 
 module _ (log after : List LogEntry) (sends : List Sending) (way : UnderWay) (s : Sending) (losses : ℕ) (answer : Answer)
-    (is_in : Contains sends s) (above : AreAbove log (Sends sends)) (new_above : AreAbove after way)
+    (is_in : Contains sends s) (above : AreAbove log (Awaiting sends)) (new_above : AreAbove after way)
     (put : IsPutIn s.part (Asked s.part s.sync s.request losses answer) log after)
     (stay : (other : Sending) → Contains sends other → other.part ≢ s.part → IsOpen way other) where
   -- its own partition
-  taken_here : (es : List Entry) → AreServed (filter (is_for s.part) (log ++ unanswered (Sends sends))) es → IsAmong es s.sync losses answer → AreServed (filter (is_for s.part) (after ++ unanswered way)) es
+  taken_here : (es : List Entry) → AreServed (filter (is_for s.part) (log ++ unanswered (Awaiting sends))) es → IsAmong es s.sync losses answer → AreServed (filter (is_for s.part) (after ++ unanswered way)) es
   taken_here es h a =
       let q = is_for s.part in
-      let was : filter q (log ++ unanswered (Sends sends)) ≡ filter q log ++ open_entry s ∷ [] =
-      filter-append q log (unanswered (Sends sends)) ∙ ap (λ (xs : List LogEntry). filter q log ++ xs) (the_open log (Sends sends) s above is_in) in
+      let was : filter q (log ++ unanswered (Awaiting sends)) ≡ filter q log ++ open_entry s ∷ [] =
+      filter-append q log (unanswered (Awaiting sends)) ∙ ap (λ (xs : List LogEntry). filter q log ++ xs) (the_open log (Awaiting sends) s above is_in) in
       let older = older_not s.part s.sync s log refl refl (all_at (λ (x : Sending). AllByRecursion (λ e. IsAbove e x) log) s sends is_in above.0) in
       let served = answered_last s.part s.sync s.request (filter q log) es losses answer (subst (λ (xs : List LogEntry). AreServed xs es) was h) older a in
       let put_is = put_here s.part (Asked s.part s.sync s.request losses answer) log after (eq-eqb s.part s.part refl) put in
@@ -79,7 +78,7 @@ module _ (log after : List LogEntry) (sends : List Sending) (way : UnderWay) (s 
       subst (λ (xs : List LogEntry). AreServed xs es) (sym (filter-append q after (unanswered way))) now
 
   -- another partition
-  taken_there : (part : ℕ) (es : List Entry) → s.part ≢ part → AreServed (filter (is_for part) (log ++ unanswered (Sends sends))) es → AreServed (filter (is_for part) (after ++ unanswered way)) es
+  taken_there : (part : ℕ) (es : List Entry) → s.part ≢ part → AreServed (filter (is_for part) (log ++ unanswered (Awaiting sends))) es → AreServed (filter (is_for part) (after ++ unanswered way)) es
   taken_there part es differ h =
       subst (λ (xs : List LogEntry). AreServed xs es) (sym (filter-append (is_for part) after (unanswered way)))
       (subst (λ (xs : List LogEntry). AreServed (xs ++ open_for part way) es) (sym same) (by_open (none_or_one part sends)))
@@ -87,26 +86,26 @@ module _ (log after : List LogEntry) (sends : List Sending) (way : UnderWay) (s 
       same : filter (is_for part) after ≡ filter (is_for part) log
       same = put_elsewhere part s.part (Asked s.part s.sync s.request losses answer) log after (ne_eqb s.part part differ) put
 
-      old : AreServed (filter (is_for part) log ++ open_for part (Sends sends)) es
-      old = subst (λ (xs : List LogEntry). AreServed xs es) (filter-append (is_for part) log (unanswered (Sends sends))) h
+      old : AreServed (filter (is_for part) log ++ open_for part (Awaiting sends)) es
+      old = subst (λ (xs : List LogEntry). AreServed xs es) (filter-append (is_for part) log (unanswered (Awaiting sends))) h
 
-      by_open : (open_for part (Sends sends) ≡ []) ⊎ ((x : Sending) × Contains sends x × (x.part ≡ part)) → AreServed (filter (is_for part) log ++ open_for part way) es
+      by_open : (open_for part (Awaiting sends) ≡ []) ⊎ ((x : Sending) × Contains sends x × (x.part ≡ part)) → AreServed (filter (is_for part) log ++ open_for part way) es
       by_open (inl none) =
           still_served part (filter (is_for part) log) way es
           (subst (λ (xs : List LogEntry). AreServed xs es) (append-nil (filter (is_for part) log)) (subst (λ (xs : List LogEntry). AreServed (filter (is_for part) log ++ xs) es) none old))
       by_open (inr one) =
           let x = one.0 in
-          let before : open_for x.part (Sends sends) ≡ open_entry x ∷ [] = the_open log (Sends sends) x above one.1 in
+          let before : open_for x.part (Awaiting sends) ≡ open_entry x ∷ [] = the_open log (Awaiting sends) x above one.1 in
           let now : open_for x.part way ≡ open_entry x ∷ [] = the_open after way x new_above (stay x one.1 (λ e. differ (sym e ∙ one.2))) in
-          let both : open_for part (Sends sends) ≡ open_for part way = subst (λ n. open_for n (Sends sends) ≡ open_for n way) one.2 (before ∙ sym now) in
+          let both : open_for part (Awaiting sends) ≡ open_for part way = subst (λ n. open_for n (Awaiting sends) ≡ open_for n way) one.2 (before ∙ sym now) in
           subst (λ (xs : List LogEntry). AreServed (filter (is_for part) log ++ xs) es) both old
 
   -- each partition
-  pub taken_served : (part : ℕ) (es : List Entry) → AreServed (filter (is_for part) (log ++ unanswered (Sends sends))) es → (s.part ≡ part → IsAmong es s.sync losses answer)
+  pub taken_served : (part : ℕ) (es : List Entry) → AreServed (filter (is_for part) (log ++ unanswered (Awaiting sends))) es → (s.part ≡ part → IsAmong es s.sync losses answer)
       → AreServed (filter (is_for part) (after ++ unanswered way)) es
   taken_served part es h a = elim (cases_eq s.part part) [ inl here ↦ at_own here | inr differ ↦ taken_there part es differ h ]
     where
       at_own : s.part ≡ part → AreServed (filter (is_for part) (after ++ unanswered way)) es
       at_own here =
           subst (λ n. AreServed (filter (is_for n) (after ++ unanswered way)) es) here
-          (taken_here es (subst (λ n. AreServed (filter (is_for n) (log ++ unanswered (Sends sends))) es) (sym here) h) (a here))
+          (taken_here es (subst (λ n. AreServed (filter (is_for n) (log ++ unanswered (Awaiting sends))) es) (sym here) h) (a here))

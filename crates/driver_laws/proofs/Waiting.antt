@@ -18,9 +18,9 @@ use Rattle.partition_laws.specs.Keeping.{Keeps}
 use Rattle.partition_laws.proofs.OpenerLaws.{last-between, last-rises}
 use Rattle.partition_laws.proofs.Steps.{Keeps-step}
 use Rattle.state_facts.proofs.Openings.{opened-fresh}
-use Rattle.record_laws.specs.SoFar.{LegalSoFar, Sending, UnderWay, way_of}
+use Rattle.record_laws.specs.SoFar.{LegalSoFar, way_of}
 use Rattle.record_laws.proofs.Lists.{all_at}
-use Rattle.driver_laws.specs.Moves.{IsOpen}
+use Rattle.session_grammar.specs.UnderWay.{Sending, UnderWay, IsOpen}
 use Rattle.driver_laws.specs.Scheduling.{Awaited, Posted, ScheduledSoFar, Step, is_old, is_serve_of, newly, posted_of, seen_more}
 use Rattle.driver_laws.proofs.Picking.{is_legal, never_passed}
 

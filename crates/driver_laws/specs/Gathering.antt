@@ -8,8 +8,9 @@ use Rattle.run_record.specs.Legal.{AreServed, drawn_in}
 use Rattle.commit_journal.specs.Journal.{StampsRise}
 use Rattle.run_record.specs.Openings.{history_of, log_of, openings}
 use Rattle.run_record.specs.declared.records.RunRecord.{RunRecord}
-use Rattle.record_laws.specs.SoFar.{LogsSoFar, UnderWay}
+use Rattle.record_laws.specs.SoFar.{LogsSoFar}
 use Rattle.driver_laws.specs.Moves.{IsPosted}
+use Rattle.session_grammar.specs.UnderWay.{UnderWay}
 use Rattle.partition_state.specs.declared.entries.Entry.{Entry}
 use Rattle.session_grammar.specs.Rows.{is_for}
 use Rattle.session_grammar.specs.declared.logs.Answer.{Answer}

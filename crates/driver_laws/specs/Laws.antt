@@ -16,11 +16,12 @@ use Rattle.session_grammar.specs.declared.logs.LogEntry.{LogEntry}
 use Rattle.run_record.specs.Openings.{history_of, log_of, openings}
 use Rattle.run_record.specs.declared.records.Act.{Act}
 use Rattle.run_record.specs.declared.records.RunRecord.{RunRecord}
-use Rattle.record_laws.specs.SoFar.{LegalSoFar, Sending, Sends, Draws, UnderWay, way_of}
+use Rattle.record_laws.specs.SoFar.{LegalSoFar, way_of}
 use Rattle.record_laws.specs.Standing.{PlansSuit}
 use Rattle.driver_laws.specs.Gathering.{Gathered}
 use Rattle.driver_laws.specs.Scheduling.{is_old, posted_of}
-use Rattle.driver_laws.specs.Moves.{Asks, IsNext, IsOpen, IsPosted, MayAnswer, Stamps, Takes, next_drawn, nothing_yet, with_acts, with_drawn, with_entry, with_log, with_way}
+use Rattle.driver_laws.specs.Moves.{IsNext, IsPosted, MayAnswer, next_drawn, nothing_yet, with_acts, with_drawn, with_entry, with_log, with_way}
+use Rattle.session_grammar.specs.UnderWay.{Sending, Awaiting, Drawing, UnderWay, Asks, IsOpen, TakesStamp, TakesAnswer}
 
 -- a run begins with what each requester opens at first
 abbrev pub RunsBegin : Type 0
@@ -36,14 +37,14 @@ NewIsServed =
 abbrev pub AnswerIsTaken : Type 0
 AnswerIsTaken =
     (script : Script) (kept : RunRecord) (ways : List UnderWay) → LegalSoFar script kept ways → length ways ≡ length script.sessions → (session : ℕ) → Lies 1 (length script.sessions) session
-    → (sends : List Sending) (s : Sending) (losses : ℕ) (answer : Answer) (log : List LogEntry) (way : UnderWay) → way_of ways session ≡ Sends sends → Contains sends s → MayAnswer kept session s losses answer
-    → Takes script session (log_of kept session) sends s losses answer log way → LegalSoFar script (with_log kept session log) (with_way ways session way)
+    → (sends : List Sending) (s : Sending) (losses : ℕ) (answer : Answer) (log : List LogEntry) (way : UnderWay) → way_of ways session ≡ Awaiting sends → Contains sends s → MayAnswer kept session s losses answer
+    → TakesAnswer script session (log_of kept session) sends s losses answer log way → LegalSoFar script (with_log kept session log) (with_way ways session way)
 
 -- a commit is drawn
 abbrev pub StampIsDrawn : Type 0
 StampIsDrawn =
     (script : Script) (kept : RunRecord) (ways : List UnderWay) → LegalSoFar script kept ways → length ways ≡ length script.sessions → (session : ℕ) → Lies 1 (length script.sessions) session
-    → (name : TxnName) (floor : ℕ) (log : List LogEntry) (way : UnderWay) → way_of ways session ≡ Draws name floor → Stamps script session (log_of kept session) (next_drawn kept name floor) log way
+    → (name : TxnName) (floor : ℕ) (log : List LogEntry) (way : UnderWay) → way_of ways session ≡ Drawing name floor → TakesStamp script session (log_of kept session) (next_drawn kept name floor) log way
     → LegalSoFar script (with_drawn (with_log kept session log) (next_drawn kept name floor)) (with_way ways session way)
 
 -- an End is served by hand and answered at once
@@ -51,7 +52,7 @@ abbrev pub EndIsServed : Type 0
 EndIsServed =
     (script : Script) (kept : RunRecord) (ways : List UnderWay) → LegalSoFar script kept ways → length ways ≡ length script.sessions → (e : Entry) → Lies 1 (length script.sessions) e.opener
     → (sends : List Sending) (s : Sending) (losses : ℕ) (log : List LogEntry) (way : UnderWay) → s.part < length kept.histories → IsNext script kept s.part e → IsPosted kept ways e.opener s.part e.sync e.request
-    → way_of ways e.opener ≡ Sends sends → Contains sends s → e.sync ≡ s.sync → Takes script e.opener (log_of kept e.opener) sends s losses (Reply e.reply) log way
+    → way_of ways e.opener ≡ Awaiting sends → Contains sends s → e.sync ≡ s.sync → TakesAnswer script e.opener (log_of kept e.opener) sends s losses (Reply e.reply) log way
     → LegalSoFar script (with_log (with_entry kept s.part e) e.opener log) (with_way ways e.opener way)
 
 -- no clause speaks of the list of acts
@@ -70,7 +71,7 @@ PickIsAnswer =
 abbrev pub AnswerFits : Type 0
 AnswerFits =
     (script : Script) (kept : RunRecord) (ways : List UnderWay) → PlansSuit script → LegalSoFar script kept ways → (session : ℕ) → Lies 1 (length script.sessions) session
-    → (sends : List Sending) (s : Sending) (losses : ℕ) (r : PartitionReply) → way_of ways session ≡ Sends sends → Contains sends s → s.part < length kept.histories → MayAnswer kept session s losses (Reply r)
+    → (sends : List Sending) (s : Sending) (losses : ℕ) (r : PartitionReply) → way_of ways session ≡ Awaiting sends → Contains sends s → s.part < length kept.histories → MayAnswer kept session s losses (Reply r)
     → fits s.request.ask r ≡ true
 
 -- a message that a session posted stays one of its log or of what it has under way, whichever session goes on
@@ -78,9 +79,9 @@ abbrev pub PostedStay : Type 0
 PostedStay =
     (script : Script) (kept : RunRecord) (ways : List UnderWay) → LegalSoFar script kept ways → length ways ≡ length script.sessions → (session : ℕ) → Lies 1 (length script.sessions) session → (log : List LogEntry) (way : UnderWay)
     → (n part sync : ℕ) (request : Request) → Lies 1 (length script.sessions) n
-    → ((sends : List Sending) (s : Sending) (losses : ℕ) (answer : Answer) → way_of ways session ≡ Sends sends → Contains sends s → Takes script session (log_of kept session) sends s losses answer log way
+    → ((sends : List Sending) (s : Sending) (losses : ℕ) (answer : Answer) → way_of ways session ≡ Awaiting sends → Contains sends s → TakesAnswer script session (log_of kept session) sends s losses answer log way
     → IsPosted kept ways n part sync request → IsPosted (with_log kept session log) (with_way ways session way) n part sync request)
-    × ((name : TxnName) (floor : ℕ) → way_of ways session ≡ Draws name floor → Stamps script session (log_of kept session) (next_drawn kept name floor) log way
+    × ((name : TxnName) (floor : ℕ) → way_of ways session ≡ Drawing name floor → TakesStamp script session (log_of kept session) (next_drawn kept name floor) log way
     → IsPosted kept ways n part sync request → IsPosted (with_drawn (with_log kept session log) (next_drawn kept name floor)) (with_way ways session way) n part sync request)
 
 -- what is known once all threads have ended makes a record that is legal so far

@@ -16,7 +16,8 @@ use Rattle.session_grammar.specs.declared.logs.LogEntry.TheVariants.{Asked, Drew
 use Rattle.run_record.specs.Openings.{history_of, log_of, openings}
 use Rattle.run_record.specs.declared.records.Act.{Act}
 use Rattle.run_record.specs.declared.records.RunRecord.{RunRecord}
-use Rattle.record_laws.specs.SoFar.{AreAbove, Begins, Sending, Sends, Draws, UnderWay, unanswered, way_of}
+use Rattle.record_laws.specs.SoFar.{way_of}
+use Rattle.session_grammar.specs.UnderWay.{AreAbove, BeginsWith, Sending, Awaiting, Drawing, UnderWay, unanswered}
 use Rattle.commit_journal.specs.Journal.{last_stamp}
 
 -- the record with another log of a session, with one more entry in a history, or with one more commit
@@ -48,30 +49,6 @@ abbrev pub IsNext : Script → RunRecord → ℕ → Entry → Type 0
 IsNext script kept part e =
     (p : State) × (slice_get (openings script) part ≡ Some p) × ((step (replay p (history_of kept part)) e.opener e.sync e.request).reply ≡ Some e.reply)
 
--- the entry is put into the log, behind all that was asked of its partition
-abbrev pub IsPutIn : ℕ → LogEntry → List LogEntry → List LogEntry → Type 0
-IsPutIn part entry log after = (front : List LogEntry) × (back : List LogEntry) × (log ≡ front ++ back) × (after ≡ front ++ entry ∷ back) × (filter (is_for part) back ≡ [])
-
--- a request is under way
-abbrev pub IsOpen : UnderWay → Sending → Type 0
-IsOpen (Sends sends) s = Contains sends s
-IsOpen (Draws name floor) s = ⊥
-
--- what a requester keeps: its log with what is under way begins one that its script allows, whatever is answered
-abbrev pub Asks : Script → ℕ → List LogEntry → UnderWay → Type 0
-Asks script session log way = AreAbove log way × Begins script session way log
-
--- a requester has taken the answer to a request under way: those to other partitions stay, and it may have opened more
-pub record Takes (script : Script) (session : ℕ) (log : List LogEntry) (sends : List Sending) (s : Sending) (losses : ℕ) (answer : Answer) (after : List LogEntry) (way : UnderWay) : Type 0 where
-  pub put_in : IsPutIn s.part (Asked s.part s.sync s.request losses answer) log after
-  pub stay : (other : Sending) → Contains sends other → other.part ≢ s.part → IsOpen way other
-  pub asks : Asks script session after way
-
--- it has taken the stamp of its commit
-pub record Stamps (script : Script) (session : ℕ) (log : List LogEntry) (d : Drawn) (after : List LogEntry) (way : UnderWay) : Type 0 where
-  pub put_in : after ≡ log ++ Drew d.name d.floor (Stamp d.stamp) ∷ []
-  pub asks : Asks script session after way
-
 -- the answer to a request under way: the reply of its entry, or that its path failed
 abbrev pub MayAnswer : RunRecord → ℕ → Sending → ℕ → Answer → Type 0
 MayAnswer kept session s losses (Reply r) = (e : Entry) × Contains (history_of kept s.part) e × (e.opener ≡ session) × (e.sync ≡ s.sync) × (e.reply ≡ r)
@@ -84,4 +61,4 @@ next_drawn kept name floor = record { name = name; floor = floor; stamp = max (l
 
 -- the record as a run begins
 abbrev pub nothing_yet : Script → RunRecord
-nothing_yet script = record { histories = map (λ p. []) (openings script); journal = []; logs = map (λ works. []) script.sessions; acts = [] }
+nothing_yet script = record { histories = map (λ p. []) (openings script); rows = []; journal = []; logs = map (λ works. []) script.sessions; acts = [] }

@@ -21,8 +21,9 @@ use Rattle.run_record.specs.declared.records.Act.TheVariants.{Send, Take, ByHand
 use Rattle.run_record.specs.declared.records.RunRecord.{RunRecord}
 use Rattle.driver_laws.specs.Carrying.{Carried, IsCarried, carried_after, passages_of}
 use Rattle.outside.specs.Wire.{is_loss}
-use Rattle.record_laws.specs.SoFar.{LegalSoFar, Sending, UnderWay, way_of}
-use Rattle.driver_laws.specs.Moves.{IsOpen, with_acts, with_drawn, with_entry, with_log}
+use Rattle.record_laws.specs.SoFar.{LegalSoFar, way_of}
+use Rattle.driver_laws.specs.Moves.{with_acts, with_drawn, with_entry, with_log}
+use Rattle.session_grammar.specs.UnderWay.{Sending, UnderWay, IsOpen}
 use Rattle.driver_laws.specs.Scheduling.{Adds, IsDriven, Lost, Sent, Scheduled, ScheduledSoFar, Step, actors, is_by, is_old, is_serve_of, nobody, posted_of}
 
 -- one act more, chosen of the actors that are enabled now, leaves the acts scheduled so far

@@ -2,4 +2,3 @@ pub mod Kept
 pub mod Contents
 pub mod Changes
 pub mod Firsts
-pub mod Alone

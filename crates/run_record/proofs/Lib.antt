@@ -1,5 +1,7 @@
 pub mod EntryLists
 pub mod TwoSessions
+pub mod CrossedSessions
+pub mod CrossedReplays
 mod WorkedRows
 mod TwoReadings
 mod TwoLegal

@@ -13,7 +13,7 @@ use Rattle.dp_messages.specs.declared.replies.Reply.{Reply as PartitionReply}
 use Rattle.dp_messages.specs.declared.replies.Reply.TheVariants as reply
 use Rattle.dp_messages.specs.declared.requests.Ask.{Ask}
 use Rattle.dp_messages.specs.declared.requests.Ask.TheVariants as ask
-use Rattle.session_grammar.specs.Follows.{Attempt, Commits, InTurn, IsAttempt, IsEnding, Reads, IsPart, follows, requester, works_of}
+use Rattle.session_grammar.specs.Follows.{Attempt, Commits, InTurn, IsAttempt, IsEnding, Reads, IsPart, follows, asker, works_of}
 use Rattle.session_grammar.specs.Rows.{IsAsked, IsSent, is_for}
 use Rattle.session_grammar.specs.declared.logs.Answer.TheVariants.{Reply}
 use Rattle.run_record.specs.Legal.{AreServed, AttemptsEnded, EntriesAsked, FloorsCovered, Legal, StampsDrawn, drawn_in}
@@ -129,12 +129,12 @@ fitting : (sync : ℕ) (a : Ask) (r : PartitionReply) → IsSent a 0 (Reply r) �
 fitting sync a r h = (refl, refl, refl, h)
 
 -- an attempt by its part and its ending
-attempt_of : (session : ℕ) (work : Work) (a : Attempt) → a.work ≡ work → a.ordinal ≡ 1 → InTurn (IsPart (requester script session) 1) work.statements a.parts None
-    → IsEnding (requester script session) a None work.commit → IsAttempt IsPart (requester script session) work 1 a
+attempt_of : (session : ℕ) (work : Work) (a : Attempt) → a.work ≡ work → a.ordinal ≡ 1 → InTurn (IsPart (asker script session) 1) work.statements a.parts None
+    → IsEnding (asker script session) a None work.commit → IsAttempt IsPart (asker script session) work 1 a
 attempt_of session work a of numbered parts ending = record { of_work = of; numbered = numbered; parts_and_ending = (None, parts, ending) }
 
 -- each log is one that its session may have
-reader_part : IsPart (requester script 1) 1 (Select 0 (0 ∷ 1 ∷ []) None Repeatable) (asked 1 scan all_four ∷ []) None
+reader_part : IsPart (asker script 1) 1 (Select 0 (0 ∷ 1 ∷ []) None Repeatable) (asked 1 scan all_four ∷ []) None
 reader_part =
     inl (
       (asked 1 scan all_four ∷ []) ∷ [],
@@ -142,7 +142,7 @@ reader_part =
       inl (((asked 1 scan all_four ∷ []) ∷ [], refl, (Reply all_four, (fitting 1 scan all_four (lit≤ tt, refl), λ h. absurd (cc h)), (refl, refl))), refl),
     )
 
-reader_commits : Commits (requester script 1) reader
+reader_commits : Commits (asker script 1) reader
 reader_commits = (
   1 ∷ [],
   2,
@@ -154,7 +154,7 @@ reader_commits = (
   refl,
 )
 
-pub reader_reads : Reads IsPart (requester script 1) (works_of script 1) (log_of kept 1) (reader ∷ [])
+pub reader_reads : Reads IsPart (asker script 1) (works_of script 1) (log_of kept 1) (reader ∷ [])
 reader_reads = record {
   syncs = (refl, (refl, (refl, tt)));
   entries = refl;
@@ -164,7 +164,7 @@ reader_reads = record {
 reader_follows : follows script 1 (log_of kept 1)
 reader_follows = (reader ∷ [], reader_reads)
 
-writer_part : IsPart (requester script 2) 1 (Insert 0 (row 9)) (asked 1 (ask.Insert (both 9)) reply.Done ∷ []) None
+writer_part : IsPart (asker script 2) 1 (Insert 0 (row 9)) (asked 1 (ask.Insert (both 9)) reply.Done ∷ []) None
 writer_part =
     inl (
       (asked 1 (ask.Insert (both 9)) reply.Done ∷ []) ∷ [],
@@ -172,7 +172,7 @@ writer_part =
       inl ((Reply reply.Done, (fitting 1 (ask.Insert (both 9)) reply.Done (lit≤ tt, refl), λ h. absurd (cc h)), refl), refl),
     )
 
-writer_commits : Commits (requester script 2) writer
+writer_commits : Commits (asker script 2) writer
 writer_commits = (
   0 ∷ [],
   1,
@@ -184,7 +184,7 @@ writer_commits = (
   refl,
 )
 
-pub writer_reads : Reads IsPart (requester script 2) (works_of script 2) (log_of kept 2) (writer ∷ [])
+pub writer_reads : Reads IsPart (asker script 2) (works_of script 2) (log_of kept 2) (writer ∷ [])
 writer_reads = record {
   syncs = (refl, (refl, (refl, tt)));
   entries = refl;
@@ -209,7 +209,7 @@ found_two false false d h = absurd (cc h)
 
 -- where a session's attempt is in the journal, it committed with that stamp
 abbrev CommittedWith : Attempt → List Attempt → ℕ → Drawn → Type 0
-CommittedWith a attempts session d = Reads IsPart (requester script session) (works_of script session) (log_of kept session) attempts → Contains attempts a → a.outcome ≡ Committed d.stamp
+CommittedWith a attempts session d = Reads IsPart (asker script session) (works_of script session) (log_of kept session) attempts → Contains attempts a → a.outcome ≡ Committed d.stamp
 
 reader_committed : (attempts : List Attempt) (a : Attempt) → CommittedWith a attempts 1 second_draw
 reader_committed attempts a reads has = ap (λ (x : Attempt). x.outcome) (in_one reader a (subst (λ list. Contains list a) (reader_read attempts reads) has))
@@ -243,4 +243,5 @@ two_legal = record {
   attempts_ended = ended;
   floors_covered = floors;
   logs_follow = record { logs = refl; each = each_follows };
+  rows_kept = refl;
 }

@@ -13,8 +13,8 @@ use Rattle.dp_messages.specs.declared.requests.Ask.TheVariants as ask
 use Rattle.dp_messages.specs.declared.requests.Request.{Request}
 use Rattle.session_grammar.proofs.LogLists.{one_of}
 use Rattle.session_grammar.proofs.ScanReadings.{only_reading}
-use Rattle.session_grammar.specs.Follows.{ArePrepares, AreTries, Attempt, IsAttempt, IsEnding, IsPart, IsSingle, Reads, entries_of, greatest_of, joined, requester, works_of}
-use Rattle.session_grammar.specs.Plans.{Requester}
+use Rattle.session_grammar.specs.Follows.{ArePrepares, AreTries, Attempt, IsAttempt, IsEnding, IsPart, IsSingle, Reads, entries_of, greatest_of, joined, asker, works_of}
+use Rattle.session_grammar.specs.Plans.{Asker}
 use Rattle.session_grammar.specs.Rows.{IsAsked, IsRow}
 use Rattle.session_grammar.specs.declared.logs.Answer.{Answer}
 use Rattle.session_grammar.specs.declared.logs.Answer.TheVariants.{Reply, PathFailed, Stamp}
@@ -24,9 +24,9 @@ use Rattle.run_record.specs.Openings.{log_of}
 use Rattle.run_record.proofs.TwoSessions.{all_four, asked, both, inserting, kept, name, reader, row, scan, script, writer}
 
 -- the one reading of the reader's log
-pub reader_read : (attempts : List Attempt) → Reads IsPart (requester script 1) (works_of script 1) (log_of kept 1) attempts → attempts ≡ reader ∷ []
+pub reader_read : (attempts : List Attempt) → Reads IsPart (asker script 1) (works_of script 1) (log_of kept 1) attempts → attempts ≡ reader ∷ []
 reader_read attempts reads =
-    only_reading (requester script 1) refl (asked 1 scan all_four ∷ []) (asked 2 ask.Prepare (reply.Floor 1)) (asked 3 (ask.EndCommit 2) reply.Done) (name 1) 1 2 (tt, tt) tt attempts reads
+    only_reading (asker script 1) refl (asked 1 scan all_four ∷ []) (asked 2 ask.Prepare (reply.Floor 1)) (asked 3 (ask.EndCommit 2) reply.Done) (name 1) 1 2 (tt, tt) tt attempts reads
 
 -- the writer's first entry, and what ended it
 abbrev inserted : LogEntry
@@ -46,9 +46,9 @@ row_is (suc patience) part request answer (e ∷ f ∷ es) rest is h =
     absurd (cc (locked.2))
 
 -- the part of the INSERT is that row
-part_is : (part rest : List LogEntry) (end : Option Abort) → part ++ rest ≡ inserted ∷ its_ending → IsPart (requester script 2) 1 (Insert 0 (row 9)) part end → part ≡ inserted ∷ []
+part_is : (part rest : List LogEntry) (end : Option Abort) → part ++ rest ≡ inserted ∷ its_ending → IsPart (asker script 2) 1 (Insert 0 (row 9)) part end → part ≡ inserted ∷ []
 part_is part rest end is (inl h) =
-    let one = one_of (IsSingle (requester script 2) 1) _ h.0 end h.2 in
+    let one = one_of (IsSingle (asker script 2) 1) _ h.0 end h.2 in
     let same : part ≡ one.0 = h.1 ∙ ap joined one.1 ∙ append-nil one.0 in
     same ∙ row_is _ _ _ one.2.0 one.0 rest (ap (λ es. es ++ rest) (sym same) ∙ is) one.2.1
 part_is part rest end is (inr h) = absurd h
@@ -77,13 +77,13 @@ abbrev tried : Outcome → Attempt
 tried outcome = record { work = inserting; ordinal = 1; parts = (inserted ∷ []) ∷ []; ending = its_ending; outcome = outcome }
 
 -- it committed
-outcome_is : (outcome : Outcome) (end : Option Abort) → IsEnding (requester script 2) (tried outcome) end true → outcome ≡ Committed 1
+outcome_is : (outcome : Outcome) (end : Option Abort) → IsEnding (asker script 2) (tried outcome) end true → outcome ≡ Committed 1
 outcome_is outcome (Some abort) h = absurd h.0.1
 outcome_is outcome None (inl h) = h.7 ∙ ap Committed (commits_with (greatest_of h.0) h.1 h.0 h.2 h.3 h.4 h.5)
 outcome_is outcome None (inr h) = absurd (loses_none h.0 h.2 h.3 h.1 h.4 h.6 h.5 h.7 h.8 h.9 h.10)
 
 -- where none may follow there is one attempt
-one_try : (r : Requester) (work : Work) (ordinal : ℕ) (tries : List Attempt) → AreTries IsPart r work ordinal 0 tries → (a : Attempt) × (tries ≡ a ∷ []) × IsAttempt IsPart r work ordinal a
+one_try : (r : Asker) (work : Work) (ordinal : ℕ) (tries : List Attempt) → AreTries IsPart r work ordinal 0 tries → (a : Attempt) × (tries ≡ a ∷ []) × IsAttempt IsPart r work ordinal a
 one_try r work ordinal [] h = absurd h
 one_try r work ordinal (a ∷ []) h = (a, refl, h.0)
 one_try r work ordinal (a ∷ b ∷ rest) h = absurd h
@@ -93,9 +93,9 @@ as_tried : (a : Attempt) → a.work ≡ inserting → a.ordinal ≡ 1 → a.part
 as_tried a work ordinal parts ending = λ i. record { work = work i; ordinal = ordinal i; parts = parts i; ending = ending i; outcome = a.outcome }
 
 -- the one reading of the writer's log
-pub writer_read : (attempts : List Attempt) → Reads IsPart (requester script 2) (works_of script 2) (log_of kept 2) attempts → attempts ≡ writer ∷ []
+pub writer_read : (attempts : List Attempt) → Reads IsPart (asker script 2) (works_of script 2) (log_of kept 2) attempts → attempts ≡ writer ∷ []
 writer_read attempts reads =
-    let r = requester script 2 in
+    let r = asker script 2 in
     let are = reads.attempts_are in
     let one = one_try r inserting 1 are.0 are.3 in
     let a = one.0 in

@@ -1,5 +1,5 @@
 -- A record of two sessions over three records: the second inserts one and commits, then the first reads all.
-use Rattle.std.proofs.Common.{ℕ, ◌*◌, pos, List, [], ◌∷◌, None, true}
+use Rattle.std.proofs.Common.{ℕ, ◌*◌, pos, List, [], ◌∷◌, None, true, map}
 use Rattle.std.specs.Prelude.{codes}
 use Rattle.sql_base.specs.Rows.{packed}
 use Rattle.session_grammar.specs.Follows.{Attempt}
@@ -102,6 +102,7 @@ writer = record {
 abbrev pub kept : RunRecord
 kept = record {
   histories = history ∷ [];
+  rows = map row (1 ∷ 2 ∷ 3 ∷ 9 ∷ []) ∷ [];
   journal = first_draw ∷ second_draw ∷ [];
   logs = (asked 1 scan all_four ∷ asked 2 ask.Prepare (reply.Floor 1) ∷ Drew (name 1) 1 (Stamp 2) ∷ asked 3 (ask.EndCommit 2) reply.Done ∷ [])
       ∷ (asked 1 (ask.Insert (both 9)) reply.Done ∷ asked 2 ask.Prepare (reply.Floor 0) ∷ Drew (name 2) 0 (Stamp 1) ∷ asked 3 (ask.EndCommit 1) reply.Done ∷ []) ∷ [];

@@ -7,7 +7,7 @@ use Rattle.sql_base.specs.declared.outcomes.Outcome.TheVariants.{Committed}
 use Rattle.one_thread.proofs.Numbers.{lines, numbers}
 use Rattle.one_thread.specs.Text.{run_text}
 use Rattle.one_thread.specs.declared.shown.Shown.{Shown}
-use Rattle.session_grammar.specs.Follows.{requester}
+use Rattle.session_grammar.specs.Follows.{asker}
 use Rattle.run_record.specs.Serial.{final_records}
 use Rattle.run_record.specs.Text.{IsText, ShowSessions, shown_of}
 use Rattle.run_record.proofs.TwoLegal.{reader_reads, writer_reads}
@@ -15,12 +15,12 @@ use Rattle.run_record.proofs.TwoSessions.{both, kept, reader, row, script, table
 
 -- the attempts as they are shown: the sessions in their order, whatever the order of their stamps
 abbrev shown : List Shown
-shown = shown_of (requester script 1) reader ∷ shown_of (requester script 2) writer ∷ []
+shown = shown_of (asker script 1) reader ∷ shown_of (asker script 2) writer ∷ []
 
 shows : ShowSessions script kept 1 script.sessions shown
 shows = (
   reader ∷ [],
-  shown_of (requester script 2) writer ∷ [],
+  shown_of (asker script 2) writer ∷ [],
   reader_reads,
   refl,
   (writer ∷ [], [], writer_reads, refl, refl),

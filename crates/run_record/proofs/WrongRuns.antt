@@ -17,8 +17,9 @@ use Rattle.dp_messages.specs.declared.replies.Reply.TheVariants as reply
 use Rattle.dp_messages.specs.declared.requests.Ask.{Ask}
 use Rattle.dp_messages.specs.declared.requests.Ask.TheVariants as ask
 use Rattle.partition_state.specs.History.{IsLegal}
-use Rattle.session_grammar.specs.Plans.{Sent, plan_of}
-use Rattle.session_grammar.specs.Follows.{projection, requester}
+use Rattle.session_grammar.specs.Plans.{plan_of}
+use Rattle.session_grammar.specs.declared.plans.Sent.{Sent}
+use Rattle.session_grammar.specs.Follows.{projection, asker}
 use Rattle.session_grammar.specs.declared.logs.Answer.TheVariants.{Stamp}
 use Rattle.session_grammar.specs.declared.logs.LogEntry.{LogEntry}
 use Rattle.session_grammar.specs.declared.logs.LogEntry.TheVariants.{Drew}
@@ -54,6 +55,7 @@ part rows next more = asked 1 scan (first_reply rows) ∷ asked 2 next (reply.En
 abbrev run : List (List ℕ) → Ask → List (List ℕ) → RunRecord
 run rows next more = record {
   histories = (entry 1 1 scan (first_reply rows) ∷ entry 1 2 next (reply.Ended more 0) ∷ entry 1 3 ask.Prepare (reply.Floor 0) ∷ entry 1 4 (ask.EndCommit 1) reply.Done ∷ []) ∷ [];
+  rows = [];
   journal = drawn ∷ [];
   logs = (part rows next more ++ asked 3 ask.Prepare (reply.Floor 0) ∷ Drew (name 1) 0 (Stamp 1) ∷ asked 4 (ask.EndCommit 1) reply.Done ∷ []) ∷ [];
   acts = [];
@@ -117,7 +119,7 @@ right_tiles = (
 )
 
 -- what tiles the range of the SELECT tiles its one piece
-on_table : (wrong : RunRecord) (entries : List LogEntry) → TilesOn by_two wrong 1 table select (plan_of (requester by_two 1) select) entries
+on_table : (wrong : RunRecord) (entries : List LogEntry) → TilesOn by_two wrong 1 table select (plan_of (asker by_two 1) select) entries
     → PieceTiles by_two wrong 1 table select all_keys (projection entries sent)
 on_table wrong entries (theirs, ((range, is, tiles), none)) =
     let same : range ≡ all_keys = cc is in
@@ -126,7 +128,7 @@ on_table wrong entries (theirs, ((range, is, tiles), none)) =
 piece : (wrong : RunRecord) (entries : List LogEntry) → Tiles by_two wrong 1 select entries → PieceTiles by_two wrong 1 table select all_keys (projection entries sent)
 piece wrong entries (of, is, tiles) =
     let same : of ≡ table = cc is in
-    on_table wrong entries (subst (λ t. TilesOn by_two wrong 1 t select (plan_of (requester by_two 1) select) entries) same tiles)
+    on_table wrong entries (subst (λ t. TilesOn by_two wrong 1 t select (plan_of (asker by_two 1) select) entries) same tiles)
 
 -- the first quantum passes over the record 2: the step gives no such reply
 abbrev skipping : RunRecord
@@ -204,6 +206,7 @@ abbrev half_committed : RunRecord
 half_committed = record {
   histories = (entry 1 1 scan (reply.Ended [] 0) ∷ entry 1 3 ask.Prepare (reply.Floor 0) ∷ entry 1 5 (ask.EndCommit 1) reply.Done ∷ [])
       ∷ (entry 1 2 scan (reply.Ended [] 0) ∷ entry 1 4 ask.Prepare (reply.Floor 0) ∷ []) ∷ [];
+  rows = [];
   journal = drawn ∷ [];
   logs = [];
   acts = [];

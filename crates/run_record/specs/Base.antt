@@ -4,7 +4,7 @@ use Rattle.key_sequenced.specs.Cells.{Keyed, records}
 use Rattle.partition_state.specs.State.{State}
 use Rattle.partition_state.specs.History.{before}
 use Rattle.one_thread.specs.One.{World}
-use Rattle.run_record.specs.Openings.{openings}
+use Rattle.run_record.specs.Openings.{by_part, openings}
 use Rattle.key_sequenced.specs.Changes.{Change, laid}
 use Rattle.partition_state.specs.Commits.{is_commit, is_of, pending}
 use Rattle.sql_base.specs.declared.lock_names.TxnName.{TxnName}
@@ -22,12 +22,6 @@ changes p history t = unwrap_or (option_map (λ i. pending t (before p history i
 -- the opening records of a partition with its changes of all commits below a stamp laid over them, in stamp order
 abbrev pub base_of : State → List Entry → List Drawn → ℕ → List Keyed
 base_of p history journal stamp = fold (λ held d. laid held (changes p history d.name)) (records p.cells) (filter (λ d. nat_lt d.stamp stamp) journal)
-
--- one value for each partition, from its opening and history
-abbrev pub by_part : {A : Type 0} → (State → List Entry → A) → List State → List (List Entry) → List A
-by_part f (p ∷ ps) (h ∷ hs) = f p h ∷ by_part f ps hs
-by_part f (p ∷ ps) [] = []
-by_part f [] hs = []
 
 -- the partitions of each table, one after the other
 abbrev pub by_table : List TableDef → List (List Keyed) → List (List (List Value))

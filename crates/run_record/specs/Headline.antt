@@ -5,10 +5,9 @@ use Rattle.sql_base.specs.Scripts.{Lies}
 use Rattle.sql_base.specs.declared.scripts.Script.{Script}
 use Rattle.one_thread.specs.Answer.{answer_text}
 use Rattle.session_grammar.specs.Follows.{in_line}
-use Rattle.session_grammar.specs.declared.logs.Answer.{Answer}
 use Rattle.session_grammar.specs.declared.logs.Answer.TheVariants.{PathFailed}
 use Rattle.session_grammar.specs.declared.logs.LogEntry.{LogEntry}
-use Rattle.session_grammar.specs.declared.logs.LogEntry.TheVariants.{Asked, Drew}
+use Rattle.session_grammar.specs.declared.logs.LogEntry.TheVariants.{Asked}
 use Rattle.run_record.specs.Legal.{Legal}
 use Rattle.run_record.specs.Openings.{log_of}
 use Rattle.run_record.specs.Serial.{Serial}

@@ -7,8 +7,8 @@ use Rattle.sql_base.specs.Scripts.{IsScript, Lies}
 use Rattle.sql_base.specs.Tables.{all_differ}
 use Rattle.partition_state.specs.History.{IsLegal}
 use Rattle.session_grammar.specs.Rows.{is_for}
-use Rattle.session_grammar.specs.Follows.{Attempt, Reads, IsPart, follows, requester, works_of}
-use Rattle.run_record.specs.Openings.{openings, history_of, log_of}
+use Rattle.session_grammar.specs.Follows.{Attempt, Reads, IsPart, follows, asker, works_of}
+use Rattle.run_record.specs.Openings.{by_part, openings, history_of, log_of, rows_left}
 use Rattle.partition_state.specs.Commits.{is_of, name_of}
 use Rattle.commit_journal.specs.Journal.{StampsRise}
 use Rattle.sql_base.specs.declared.lock_names.TxnName.{TxnName}
@@ -84,7 +84,7 @@ pub record AttemptsEnded (script : Script) (kept : RunRecord) : Type 0 where
   pub ends : AllByRecursion (λ history. AllByRecursion (λ e. EndsBy (name_of e) history (in_journal kept (name_of e))) history) kept.histories
   -- an attempt in the journal committed, so none of its transaction follows it
   pub committed : (session : ℕ) (attempts : List Attempt) (a : Attempt) (d : Drawn) → Lies 1 (length script.sessions) session
-      → Reads IsPart (requester script session) (works_of script session) (log_of kept session) attempts → Contains attempts a
+      → Reads IsPart (asker script session) (works_of script session) (log_of kept session) attempts → Contains attempts a
       → in_journal kept (record { session = session; ordinal = a.ordinal }) ≡ Some d → a.outcome ≡ Committed d.stamp
 
 -- the floor of a commit is at least each floor that a partition replied to it
@@ -98,6 +98,10 @@ pub record LogsFollow (script : Script) (kept : RunRecord) : Type 0 where
   pub logs : length kept.logs ≡ length script.sessions
   pub each : (session : ℕ) → Lies 1 (length script.sessions) session → follows script session (log_of kept session)
 
+-- the rows that are kept of each partition are those that its history leaves
+abbrev pub RowsLeft : Script → RunRecord → Type 0
+RowsLeft script kept = kept.rows ≡ by_part rows_left (openings script) kept.histories
+
 -- a record of a run of the script
 pub record Legal (script : Script) (kept : RunRecord) : Type 0 where
   pub script_runs : IsScript script
@@ -107,3 +111,4 @@ pub record Legal (script : Script) (kept : RunRecord) : Type 0 where
   pub attempts_ended : AttemptsEnded script kept
   pub floors_covered : FloorsCovered kept
   pub logs_follow : LogsFollow script kept
+  pub rows_kept : RowsLeft script kept

@@ -3,6 +3,8 @@ use Rattle.std.specs.Prelude.{ℕ, ◌+◌, ◌-◌, ◌==◌, List, [], ◌∷�
 use Rattle.std.specs.List.{range_with_len}
 use Rattle.sql_base.specs.Rows.{key_of}
 use Rattle.partition_map.specs.Map.{part_of}
+use Rattle.key_sequenced.specs.Cells.{records}
+use Rattle.partition_state.specs.History.{replay}
 use Rattle.partition_state.specs.State.{State, opening}
 use Rattle.one_thread.specs.One.{loaded}
 use Rattle.sql_base.specs.declared.scripts.Limits.{Limits}
@@ -33,3 +35,13 @@ history_of kept part = unwrap_or (slice_get kept.histories part) []
 
 abbrev pub log_of : RunRecord → ℕ → List LogEntry
 log_of kept session = unwrap_or (slice_get kept.logs (session - 1)) []
+
+-- one value for each partition, from its opening and history
+abbrev pub by_part : {A : Type 0} → (State → List Entry → A) → List State → List (List Entry) → List A
+by_part f (p ∷ ps) (h ∷ hs) = f p h ∷ by_part f ps hs
+by_part f (p ∷ ps) [] = []
+by_part f [] hs = []
+
+-- the rows that a history leaves in its partition
+abbrev pub rows_left : State → List Entry → List (List Value)
+rows_left p history = map (λ k. k.row) (records (replay p history).cells)

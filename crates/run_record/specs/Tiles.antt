@@ -12,8 +12,11 @@ use Rattle.key_sequenced.specs.Cells.{Keyed, records}
 use Rattle.sql_base.specs.Keys.{is_from}
 use Rattle.partition_state.specs.History.{before}
 use Rattle.one_thread.specs.One.{meets, fault_on, new_row_fault, row_after}
-use Rattle.session_grammar.specs.Plans.{Sent, Plan, Subsets, Singles, plan_of}
-use Rattle.session_grammar.specs.Follows.{Attempt, Reads, IsPart, AreTheirs, projection, requester, works_of}
+use Rattle.session_grammar.specs.Plans.{plan_of}
+use Rattle.session_grammar.specs.declared.plans.Plan.{Plan}
+use Rattle.session_grammar.specs.declared.plans.Plan.TheVariants.{Singles, Subsets}
+use Rattle.session_grammar.specs.declared.plans.Sent.{Sent}
+use Rattle.session_grammar.specs.Follows.{Attempt, Reads, IsPart, AreTheirs, projection, asker, works_of}
 use Rattle.run_record.specs.Openings.{openings, history_of, log_of}
 use Rattle.sql_base.specs.declared.faults.Fault.{Fault}
 use Rattle.sql_base.specs.declared.key_ranges.KeyRange.{KeyRange}
@@ -186,18 +189,18 @@ TilesOn script kept session table statement plan part = AreTheirs (sents_of plan
 
 abbrev pub Tiles : Script → RunRecord → ℕ → Statement → List LogEntry → Type 0
 Tiles script kept session statement part =
-    (table : TableDef) × (slice_get script.tables (table_of statement) ≡ Some table) × TilesOn script kept session table statement (plan_of (requester script session) statement) part
+    (table : TableDef) × (slice_get script.tables (table_of statement) ≡ Some table) × TilesOn script kept session table statement (plan_of (asker script session) statement) part
 
 -- a statement of an attempt whose part stands whole
 pub record IsFinished (script : Script) (session : ℕ) (a : Attempt) (statement : Statement) (part : List LogEntry) : Type 0 where
   pub place : ℕ
   pub statement_at : slice_get a.work.statements place ≡ Some statement
   pub part_at : slice_get a.parts place ≡ Some part
-  pub whole : IsPart (requester script session) a.ordinal statement part None
+  pub whole : IsPart (asker script session) a.ordinal statement part None
 
 -- every finished statement tiles its range
 abbrev pub FinishedTile : Script → RunRecord → Type 0
 FinishedTile script kept =
     (session : ℕ) (attempts : List Attempt) (a : Attempt) (statement : Statement) (part : List LogEntry) → Lies 1 (length script.sessions) session
-    → Reads IsPart (requester script session) (works_of script session) (log_of kept session) attempts → Contains attempts a
+    → Reads IsPart (asker script session) (works_of script session) (log_of kept session) attempts → Contains attempts a
     → IsFinished script session a statement part → Tiles script kept session statement part

@@ -3,7 +3,7 @@ use commit_journal::Drawn;
 use outside::Passage;
 use partition_state::Entry;
 use session_grammar::LogEntry;
-use sql_base::List;
+use sql_base::{List, Row};
 
 /// One action of a scheduled run. Sessions count from 1, the partitions of all tables from 0.
 #[derive(Debug, Drop)]
@@ -42,6 +42,8 @@ pub enum Act {
 pub struct RunRecord {
     /// The history of each partition, in the order of the partitions.
     pub histories: List<List<Entry>>,
+    /// The rows of each partition at the end, in key order.
+    pub rows: List<List<Row>>,
     /// The commits, in the order in which they were drawn.
     pub journal: List<Drawn>,
     /// The log of each session, in the order of the sessions.

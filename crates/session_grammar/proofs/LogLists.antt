@@ -12,6 +12,12 @@ CountSyncs-append next [] ys a b = b
 CountSyncs-append next (Asked p s q l w ∷ xs) ys a b = (a.0, CountSyncs-append (next + 1) xs ys a.1 b)
 CountSyncs-append next (Drew n f w ∷ xs) ys a b = CountSyncs-append next xs ys a b
 
+-- the syncs behind a part of a log count on from it
+pub CountSyncs-rest : (next : ℕ) (xs ys : List LogEntry) → CountSyncs next (xs ++ ys) → CountSyncs (sync_behind next xs) ys
+CountSyncs-rest next [] ys h = h
+CountSyncs-rest next (Asked p s q l w ∷ xs) ys h = CountSyncs-rest (next + 1) xs ys h.1
+CountSyncs-rest next (Drew n f w ∷ xs) ys h = CountSyncs-rest next xs ys h
+
 pub sync_behind-append : (next : ℕ) (xs ys : List LogEntry) → sync_behind next (xs ++ ys) ≡ sync_behind (sync_behind next xs) ys
 sync_behind-append next [] ys = refl
 sync_behind-append next (Asked p s q l w ∷ xs) ys = sync_behind-append (next + 1) xs ys

@@ -16,7 +16,10 @@ use Rattle.session_grammar.specs.declared.logs.LogEntry.{LogEntry}
 use Rattle.session_grammar.specs.declared.logs.LogEntry.TheVariants.{Asked, Drew}
 use Rattle.session_grammar.specs.Follows.{AfterRow, AreAttempts, AreEnds, ArePrepares, AreRows, AreTries, Attempt, Follows, FollowsInLine, InLineBy, InTurn, IsAttempt}
 use Rattle.session_grammar.specs.Follows.{IsInLine, IsList, IsPart, IsSingle, Reads, WideBy, joined}
-use Rattle.session_grammar.specs.Plans.{Plan, Requester, Sent, Singles, Subsets, plan_of}
+use Rattle.session_grammar.specs.Plans.{Asker, plan_of}
+use Rattle.session_grammar.specs.declared.plans.Plan.{Plan}
+use Rattle.session_grammar.specs.declared.plans.Plan.TheVariants.{Singles, Subsets}
+use Rattle.session_grammar.specs.declared.plans.Sent.{Sent}
 use Rattle.session_grammar.specs.Rows.{IsAsked, IsRow, is_for}
 
 -- what is in turn by one relation is so by each that it implies
@@ -28,7 +31,7 @@ in_turn_by R S to (x ∷ things) [] end h = absurd h
 in_turn_by R S to (x ∷ things) (list ∷ lists) end (inl h) = inl (to x list None h.0, in_turn_by R S to things lists end h.1)
 in_turn_by R S to (x ∷ things) (list ∷ lists) end (inr h) = inr (to x list end h.0, h.1, h.2)
 
-module _ (r : Requester) where
+module _ (r : Asker) where
   -- an attempt whose parts are in line is an attempt
   attempt-in_line : (work : Work) (ordinal : ℕ) (a : Attempt) → IsAttempt IsInLine r work ordinal a → IsAttempt IsPart r work ordinal a
   attempt-in_line work ordinal a h =
@@ -108,7 +111,7 @@ all-for-asked : (sents : List Sent) (es : List LogEntry) → AllByRecursion (λ 
 all-for-asked sents [] h = tt
 all-for-asked sents (e ∷ es) h = (for-asked sents e h.0, all-for-asked sents es h.1)
 
-module _ (r : Requester) (ordinal : ℕ) where
+module _ (r : Asker) (ordinal : ℕ) where
   -- the rows of a subset draw nothing
   rows-asked : (part : ℕ) (ask : Ask) (rows : List (List LogEntry)) (end : Option Abort) → AreRows r ordinal part ask rows end → AreAsked (joined rows)
   rows-asked part ask [] end h = absurd h

@@ -16,7 +16,7 @@ use Rattle.session_grammar.specs.declared.logs.LogEntry.{LogEntry}
 use Rattle.session_grammar.specs.declared.logs.LogEntry.TheVariants.{Drew}
 use Rattle.session_grammar.specs.Follows.{AreEnds, ArePrepares, AreTries, Attempt, Commits, IsAttempt}
 use Rattle.session_grammar.specs.Follows.{IsEnding, IsPart, Reads, entries_of, greatest_of, joined, touched}
-use Rattle.session_grammar.specs.Plans.{Requester}
+use Rattle.session_grammar.specs.Plans.{Asker}
 use Rattle.session_grammar.proofs.LogLists.{one_of, joined-one}
 use Rattle.sql_base.specs.declared.lock_names.Access.TheVariants.{Repeatable}
 use Rattle.sql_base.specs.declared.statements.Statement.TheVariants.{Select}
@@ -43,13 +43,13 @@ one_prepare ordinal part (e ∷ []) (floor ∷ floors) h = (e, refl)
 one_prepare ordinal part (e ∷ f ∷ es) (floor ∷ floors) h = absurd h.1
 
 -- where none may follow there is one attempt
-one_try : (P : Requester → ℕ → Statement → List LogEntry → Option Abort → Type 0) (r : Requester) (work : Work) (ordinal : ℕ) (tries : List Attempt)
+one_try : (P : Asker → ℕ → Statement → List LogEntry → Option Abort → Type 0) (r : Asker) (work : Work) (ordinal : ℕ) (tries : List Attempt)
     → AreTries P r work ordinal 0 tries → (a : Attempt) × (tries ≡ a ∷ []) × IsAttempt P r work ordinal a
 one_try P r work ordinal [] h = absurd h
 one_try P r work ordinal (a ∷ []) h = (a, refl, h.0)
 one_try P r work ordinal (a ∷ b ∷ rest) h = absurd h
 
-module _ (r : Requester) (a : Attempt) (list : List LogEntry) (asked : AreAsked list) where
+module _ (r : Asker) (a : Attempt) (list : List LogEntry) (asked : AreAsked list) where
   -- an attempt whose log has a draw commits
   draw_commits : (end : Option Abort) (xs zs : List LogEntry) (name : TxnName) (floor : ℕ) (answer : Answer) → list ++ a.ending ≡ xs ++ Drew name floor answer ∷ zs
       → IsEnding r a end true → Commits r a
@@ -96,7 +96,7 @@ same_attempt : (work work' : Work) (ordinal ordinal' : ℕ) (parts parts' : List
 same_attempt work work' ordinal ordinal' parts parts' ending ending' outcome outcome' w o p e out = cc
 
 -- a log of one scan that committed at once has one reading
-pub only_reading : (r : Requester) → r.limits.restart ≡ 0 → (scan_entries : List LogEntry) (prepare commit : LogEntry) (name : TxnName) (floor stamp : ℕ)
+pub only_reading : (r : Asker) → r.limits.restart ≡ 0 → (scan_entries : List LogEntry) (prepare commit : LogEntry) (name : TxnName) (floor stamp : ℕ)
     → AreAsked scan_entries → IsAskedEntry prepare → (attempts : List Attempt)
     → Reads IsPart r (scan ∷ []) (scan_entries ++ prepare ∷ Drew name floor (Stamp stamp) ∷ commit ∷ []) attempts
     → attempts ≡ record { work = scan; ordinal = 1; parts = scan_entries ∷ []; ending = prepare ∷ Drew name floor (Stamp stamp) ∷ commit ∷ []; outcome = Committed stamp } ∷ []

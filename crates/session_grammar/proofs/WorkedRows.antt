@@ -5,7 +5,9 @@ use Rattle.sql_base.proofs.Trees.{fold-Number, fold-Column, fold-Compare}
 use Rattle.sql_base.specs.Codes.{code_of, sets_code}
 use Rattle.sql_base.specs.Rows.{key_value}
 use Rattle.range_finder.specs.Range.{Shape, ALiteral, AColumn, shape_step, shape_of_compare, range}
-use Rattle.session_grammar.specs.Plans.{Requester, Plan, Subsets, plan_of, begins_in}
+use Rattle.session_grammar.specs.Plans.{Asker, plan_of, begins_in}
+use Rattle.session_grammar.specs.declared.plans.Plan.{Plan}
+use Rattle.session_grammar.specs.declared.plans.Plan.TheVariants.{Subsets}
 use Rattle.session_grammar.specs.Rows.{IsAsked, IsSent}
 use Rattle.session_grammar.specs.Follows.{Attempt, IsInLine, InLineBy, FollowsInLine}
 use Rattle.sql_base.specs.declared.expressions.ArithOp.TheVariants.{Add}
@@ -37,7 +39,7 @@ use Rattle.session_grammar.specs.declared.logs.LogEntry.TheVariants.{Asked}
 abbrev table : TableDef
 table = record { name = codes "t"; columns = record { name = codes "k"; kind = Int } ∷ record { name = codes "v"; kind = Int } ∷ []; key = 0 ∷ []; checks = []; firsts = (value.Int (pos 1000) ∷ []) ∷ [] }
 
-abbrev session : ℕ → Requester
+abbrev session : ℕ → Asker
 session number = record { tables = table ∷ []; limits = record { quantum = 50; buffer = 4096; patience = 1; servers = 2; restart = 0 }; number = number }
 
 abbrev key : ℕ → List ℕ

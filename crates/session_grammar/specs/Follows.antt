@@ -17,7 +17,10 @@ use Rattle.session_grammar.specs.declared.logs.Answer.{Answer}
 use Rattle.session_grammar.specs.declared.logs.Answer.TheVariants.{Reply, PathFailed, Stamp}
 use Rattle.session_grammar.specs.declared.logs.LogEntry.{LogEntry}
 use Rattle.session_grammar.specs.declared.logs.LogEntry.TheVariants.{Asked, Drew}
-use Rattle.session_grammar.specs.Plans.{Requester, Sent, Plan, Subsets, Singles, plan_of}
+use Rattle.session_grammar.specs.Plans.{Asker, plan_of}
+use Rattle.session_grammar.specs.declared.plans.Plan.{Plan}
+use Rattle.session_grammar.specs.declared.plans.Plan.TheVariants.{Singles, Subsets}
+use Rattle.session_grammar.specs.declared.plans.Sent.{Sent}
 use Rattle.session_grammar.specs.Rows.{IsAsked, IsRow, failure, is_for}
 
 -- the list of a subset: a row of its Begin, and after each redrive a row of the Continue that it names, until Ended or a row that fails
@@ -26,7 +29,7 @@ AfterRow (Reply (reply.Redrive subset last cause rows changed)) goes_on rest end
 AfterRow (Reply (reply.Ended rows changed)) goes_on rest end = (rest ≡ []) × (end ≡ None)
 AfterRow answer goes_on rest end = (rest ≡ []) × IsSome (failure answer) × (end ≡ failure answer)
 
-abbrev pub AreRows : Requester → ℕ → ℕ → Ask → List (List LogEntry) → Option Abort → Type 0
+abbrev pub AreRows : Asker → ℕ → ℕ → Ask → List (List LogEntry) → Option Abort → Type 0
 AreRows r ordinal part ask [] end = ⊥
 AreRows r ordinal part ask (row ∷ rows) end =
     (answer : Answer) × IsRow r.limits.patience part (record { ordinal = ordinal; ask = ask }) row answer
@@ -35,11 +38,11 @@ AreRows r ordinal part ask (row ∷ rows) end =
 abbrev pub joined : List (List LogEntry) → List LogEntry
 joined lists = flat_map (λ list. list) lists
 
-abbrev pub IsList : Requester → ℕ → Sent → List LogEntry → Option Abort → Type 0
+abbrev pub IsList : Asker → ℕ → Sent → List LogEntry → Option Abort → Type 0
 IsList r ordinal sent entries end = (rows : List (List LogEntry)) × (entries ≡ joined rows) × AreRows r ordinal sent.part sent.ask rows end
 
 -- one row of a request that isn't a subset's
-abbrev pub IsSingle : Requester → ℕ → Sent → List LogEntry → Option Abort → Type 0
+abbrev pub IsSingle : Asker → ℕ → Sent → List LogEntry → Option Abort → Type 0
 IsSingle r ordinal sent entries end =
     (answer : Answer) × IsRow r.limits.patience sent.part (record { ordinal = ordinal; ask = sent.ask }) entries answer × (end ≡ failure answer)
 
@@ -54,11 +57,11 @@ abbrev pub OneAfterOther : {A : Type 0} → (A → List LogEntry → Option Abor
 OneAfterOther R things entries end = (lists : List (List LogEntry)) × (entries ≡ joined lists) × InTurn R things lists end
 
 -- the part of a statement in line: one subset or request after the other, in rising partitions
-abbrev pub InLineBy : Requester → ℕ → Plan → List LogEntry → Option Abort → Type 0
+abbrev pub InLineBy : Asker → ℕ → Plan → List LogEntry → Option Abort → Type 0
 InLineBy r ordinal (Subsets sents) entries end = OneAfterOther (IsList r ordinal) sents entries end
 InLineBy r ordinal (Singles sents) entries end = OneAfterOther (IsSingle r ordinal) sents entries end
 
-abbrev pub IsInLine : Requester → ℕ → Statement → List LogEntry → Option Abort → Type 0
+abbrev pub IsInLine : Asker → ℕ → Statement → List LogEntry → Option Abort → Type 0
 IsInLine r ordinal statement entries end = InLineBy r ordinal (plan_of r statement) entries end
 
 -- the entries asked of one partition
@@ -84,18 +87,18 @@ Together R [] (list ∷ lists) end = ⊥
 Together R (sent ∷ sents) [] end = ⊥
 
 -- the part of a statement in all its partitions at once: its lists interleaved, each begun first, in rising partitions
-pub record AreWide (r : Requester) (ordinal : ℕ) (sents : List Sent) (entries : List LogEntry) (end : Option Abort) : Type 0 where
+pub record AreWide (r : Asker) (ordinal : ℕ) (sents : List Sent) (entries : List LogEntry) (end : Option Abort) : Type 0 where
   pub several : 2 ≤ length sents
   pub theirs : AreTheirs sents entries
   pub begun : take (length sents) entries ≡ flat_map (λ sent. take 1 (projection entries sent)) sents
   pub lists : Together (IsList r ordinal) sents (map (projection entries) sents) end
 
-abbrev pub WideBy : Requester → ℕ → Plan → List LogEntry → Option Abort → Type 0
+abbrev pub WideBy : Asker → ℕ → Plan → List LogEntry → Option Abort → Type 0
 WideBy r ordinal (Subsets sents) entries end = AreWide r ordinal sents entries end
 WideBy r ordinal (Singles sents) entries end = ⊥
 
 -- the part of a statement, in line or wide
-abbrev pub IsPart : Requester → ℕ → Statement → List LogEntry → Option Abort → Type 0
+abbrev pub IsPart : Asker → ℕ → Statement → List LogEntry → Option Abort → Type 0
 IsPart r ordinal statement entries end = IsInLine r ordinal statement entries end ⊎ WideBy r ordinal (plan_of r statement) entries end
 
 -- an attempt of a transaction: the parts of its statements, up to the one that failed it, what ended it, and how it ended
@@ -110,7 +113,7 @@ abbrev pub entries_of : Attempt → List LogEntry
 entries_of a = joined a.parts ++ a.ending
 
 -- the partitions to which it sent anything, in rising number
-abbrev pub touched : Requester → Attempt → List ℕ
+abbrev pub touched : Asker → Attempt → List ℕ
 touched r a = filter (λ part. list_any (is_for part) (joined a.parts)) (range_with_len 0 (parts_of r.tables))
 
 -- a Prepare for each of these partitions, answered with these floors
@@ -130,40 +133,40 @@ abbrev pub greatest_of : List ℕ → ℕ
 greatest_of floors = fold max 0 floors
 
 -- the commit: all prepare, the stamp is drawn above the greatest floor, all end with it
-abbrev pub Commits : Requester → Attempt → Type 0
+abbrev pub Commits : Asker → Attempt → Type 0
 Commits r a =
     (floors : List ℕ) × (stamp : ℕ) × (prepares : List LogEntry) × (ends : List LogEntry)
     × (a.ending ≡ prepares ++ Drew (record { session = r.number; ordinal = a.ordinal }) (greatest_of floors) (Stamp stamp) ∷ ends)
     × ArePrepares a.ordinal (touched r a) prepares floors × AreEnds a.ordinal (EndCommit stamp) (touched r a) ends × (a.outcome ≡ Committed stamp)
 
 -- the path to one of the partitions loses the Prepare, and all is undone
-abbrev pub LosesPrepare : Requester → Attempt → Type 0
+abbrev pub LosesPrepare : Asker → Attempt → Type 0
 LosesPrepare r a =
     (front : List ℕ) × (part : ℕ) × (back : List ℕ) × (floors : List ℕ) × (prepares : List LogEntry) × (lost : LogEntry) × (ends : List LogEntry)
     × (touched r a ≡ front ++ part ∷ back) × (a.ending ≡ prepares ++ lost ∷ ends) × ArePrepares a.ordinal front prepares floors
     × IsAsked part (record { ordinal = a.ordinal; ask = Prepare }) PathFailed lost × AreEnds a.ordinal EndUndo (touched r a) ends × (a.outcome ≡ Aborted PathLost)
 
 -- what follows the statements: undone where one failed or the script rolls back, else committed
-abbrev pub IsEnding : Requester → Attempt → Option Abort → Bool → Type 0
+abbrev pub IsEnding : Asker → Attempt → Option Abort → Bool → Type 0
 IsEnding r a (Some abort) commit = AreEnds a.ordinal EndUndo (touched r a) a.ending × (a.outcome ≡ Aborted abort)
 IsEnding r a None false = AreEnds a.ordinal EndUndo (touched r a) a.ending × (a.outcome ≡ RolledBack)
 IsEnding r a None true = Commits r a ⊎ LosesPrepare r a
 
 -- `P` says which lists of entries may be the part of a statement
-pub record IsAttempt (P : Requester → ℕ → Statement → List LogEntry → Option Abort → Type 0) (r : Requester) (work : Work) (ordinal : ℕ) (a : Attempt) : Type 0 where
+pub record IsAttempt (P : Asker → ℕ → Statement → List LogEntry → Option Abort → Type 0) (r : Asker) (work : Work) (ordinal : ℕ) (a : Attempt) : Type 0 where
   pub of_work : a.work ≡ work
   pub numbered : a.ordinal ≡ ordinal
   pub parts_and_ending : (end : Option Abort) × InTurn (P r ordinal) work.statements a.parts end × IsEnding r a end work.commit
 
 -- the attempts of a transaction: each but the last failed by a lock, and the last only where no more may follow
-abbrev pub AreTries : (Requester → ℕ → Statement → List LogEntry → Option Abort → Type 0) → Requester → Work → ℕ → ℕ → List Attempt → Type 0
+abbrev pub AreTries : (Asker → ℕ → Statement → List LogEntry → Option Abort → Type 0) → Asker → Work → ℕ → ℕ → List Attempt → Type 0
 AreTries P r work ordinal more [] = ⊥
 AreTries P r work ordinal more (a ∷ []) = IsAttempt P r work ordinal a × (a.outcome ≡ Aborted LockedOut → more ≡ 0)
 AreTries P r work ordinal zero (a ∷ b ∷ rest) = ⊥
 AreTries P r work ordinal (suc more) (a ∷ b ∷ rest) = IsAttempt P r work ordinal a × (a.outcome ≡ Aborted LockedOut) × AreTries P r work (ordinal + 1) more (b ∷ rest)
 
 -- the attempts of the transactions, in their order; the ordinals count on over them
-abbrev pub AreAttempts : (Requester → ℕ → Statement → List LogEntry → Option Abort → Type 0) → Requester → ℕ → List Work → List Attempt → Type 0
+abbrev pub AreAttempts : (Asker → ℕ → Statement → List LogEntry → Option Abort → Type 0) → Asker → ℕ → List Work → List Attempt → Type 0
 AreAttempts P r ordinal [] attempts = attempts ≡ []
 AreAttempts P r ordinal (work ∷ works) attempts =
     (tries : List Attempt) × (rest : List Attempt) × (attempts ≡ tries ++ rest)
@@ -176,27 +179,27 @@ CountSyncs next (Asked part sync request losses answer ∷ log) = (sync ≡ next
 CountSyncs next (Drew name floor answer ∷ log) = CountSyncs next log
 
 -- the log is that of these attempts of the transactions
-pub record Reads (P : Requester → ℕ → Statement → List LogEntry → Option Abort → Type 0) (r : Requester) (works : List Work) (log : List LogEntry) (attempts : List Attempt) : Type 0 where
+pub record Reads (P : Asker → ℕ → Statement → List LogEntry → Option Abort → Type 0) (r : Asker) (works : List Work) (log : List LogEntry) (attempts : List Attempt) : Type 0 where
   pub syncs : CountSyncs 1 log
   pub entries : log ≡ flat_map entries_of attempts
   pub attempts_are : AreAttempts P r 1 works attempts
 
-abbrev pub Follows : Requester → List Work → List LogEntry → Type 0
+abbrev pub Follows : Asker → List Work → List LogEntry → Type 0
 Follows r works log = (attempts : List Attempt) × Reads IsPart r works log attempts
 
 -- every part is in line
-abbrev pub FollowsInLine : Requester → List Work → List LogEntry → Type 0
+abbrev pub FollowsInLine : Asker → List Work → List LogEntry → Type 0
 FollowsInLine r works log = (attempts : List Attempt) × Reads IsInLine r works log attempts
 
 -- a session of a script; sessions count from 1
-abbrev pub requester : Script → ℕ → Requester
-requester script number = record { tables = script.tables; limits = script.limits; number = number }
+abbrev pub asker : Script → ℕ → Asker
+asker script number = record { tables = script.tables; limits = script.limits; number = number }
 
 abbrev pub works_of : Script → ℕ → List Work
 works_of script number = unwrap_or (slice_get script.sessions (number - 1)) []
 
 abbrev pub follows : Script → ℕ → List LogEntry → Type 0
-follows script number log = Follows (requester script number) (works_of script number) log
+follows script number log = Follows (asker script number) (works_of script number) log
 
 abbrev pub in_line : Script → ℕ → List LogEntry → Type 0
-in_line script number log = FollowsInLine (requester script number) (works_of script number) log
+in_line script number log = FollowsInLine (asker script number) (works_of script number) log

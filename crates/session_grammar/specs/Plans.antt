@@ -19,41 +19,34 @@ use Rattle.sql_base.specs.declared.tables.TableDef.{TableDef}
 use Rattle.sql_base.specs.declared.values.Value.{Value}
 use Rattle.dp_messages.specs.declared.requests.Ask.{Ask}
 use Rattle.dp_messages.specs.declared.requests.Ask.TheVariants as ask
+use Rattle.session_grammar.specs.declared.plans.Plan.{Plan}
+use Rattle.session_grammar.specs.declared.plans.Plan.TheVariants.{Singles, Subsets}
+use Rattle.session_grammar.specs.declared.plans.Sent.{Sent}
 
 -- what the requests of a session are judged with: the tables, the limits and its number
-pub record Requester : Type 0 where
+pub record Asker : Type 0 where
   pub tables : List TableDef
   pub limits : Limits
   pub number : ℕ
 
--- a request of one partition; the partitions of all tables are counted from 0
-pub record Sent : Type 0 where
-  pub part : ℕ
-  pub ask : Ask
-
--- what a statement asks: a subset in each of some partitions, which goes on after each redrive, or single requests
-pub data Plan : Type 0 where
-  Subsets : List Sent → Plan
-  Singles : List Sent → Plan
-
 -- the number of a table's first partition
-abbrev pub first_part : Requester → ℕ → ℕ
+abbrev pub first_part : Asker → ℕ → ℕ
 first_part r table = parts_of (take table r.tables)
 
 abbrev pub filter_code : Option Expr → Option (List ℕ)
 filter_code filter = option_map code_of filter
 
 -- the Begin of each piece of a range; the granule is the common prefix of the statement's bounds
-abbrev pub begins : Requester → TableDef → ℕ → KeyRange → (List ℕ → KeyRange → Ask) → List Sent
+abbrev pub begins : Asker → TableDef → ℕ → KeyRange → (List ℕ → KeyRange → Ask) → List Sent
 begins r table place range begin =
     map (λ piece. record { part = first_part r place + piece.part; ask = begin (common_prefix range.low range.high) piece.range }) (cut table range)
 
-abbrev pub begins_in : Requester → TableDef → ℕ → Option KeyRange → (List ℕ → KeyRange → Ask) → List Sent
+abbrev pub begins_in : Asker → TableDef → ℕ → Option KeyRange → (List ℕ → KeyRange → Ask) → List Sent
 begins_in r table place None begin = []
 begins_in r table place (Some range) begin = begins r table place range begin
 
 -- a SELECT of one whole key reads it; any other takes the pieces
-abbrev pub select_plan : Requester → TableDef → ℕ → Access → Option Expr → List ℕ → Option KeyRange → Plan
+abbrev pub select_plan : Asker → TableDef → ℕ → Access → Option Expr → List ℕ → Option KeyRange → Plan
 select_plan r table place access predicate columns None = Subsets []
 select_plan r table place access predicate columns (Some range) =
     if key_eq range.low range.high
@@ -63,7 +56,7 @@ select_plan r table place access predicate columns (Some range) =
 abbrev pub all_columns : List Value → List ℕ
 all_columns row = range_with_len 0 (length row)
 
-abbrev pub plan_on : Requester → TableDef → Statement → Plan
+abbrev pub plan_on : Asker → TableDef → Statement → Plan
 plan_on r table (Select place columns predicate access) = select_plan r table place access predicate columns (range table predicate)
 plan_on r table (Update place sets predicate access) =
     Subsets (begins_in r table place (range table predicate) (λ granule piece. ask.BeginUpdate access granule piece (filter_code predicate) (sets_code sets)))
@@ -75,5 +68,5 @@ plan_on r table (LockTable place mode) =
     Singles (map (λ part. record { part = first_part r place + part; ask = ask.LockGranule [] mode }) (range_with_len 0 (length table.firsts + 1)))
 
 -- what a statement asks, in rising partitions
-abbrev pub plan_of : Requester → Statement → Plan
+abbrev pub plan_of : Asker → Statement → Plan
 plan_of r statement = unwrap_or (option_map (λ table. plan_on r table statement) (slice_get r.tables (table_of statement))) (Subsets [])

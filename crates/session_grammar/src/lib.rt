@@ -2,5 +2,7 @@
 #![tactic(auto)]
 
 mod logs;
+mod plans;
 
 pub use logs::{Action, Answer, LogEntry};
+pub use plans::{Plan, Sent};

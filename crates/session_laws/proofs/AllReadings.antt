@@ -8,7 +8,10 @@ use Rattle.sql_base.specs.declared.scripts.Work.{Work}
 use Rattle.sql_base.specs.declared.statements.Statement.{Statement}
 use Rattle.session_grammar.specs.declared.logs.LogEntry.{LogEntry}
 use Rattle.session_grammar.specs.Follows.{Attempt, Follows, InLineBy, IsPart, Reads, WideBy}
-use Rattle.session_grammar.specs.Plans.{Plan, Requester, Sent, Singles, Subsets, plan_of}
+use Rattle.session_grammar.specs.Plans.{Asker, plan_of}
+use Rattle.session_grammar.specs.declared.plans.Plan.{Plan}
+use Rattle.session_grammar.specs.declared.plans.Plan.TheVariants.{Singles, Subsets}
+use Rattle.session_grammar.specs.declared.plans.Sent.{Sent}
 use Rattle.session_laws.specs.Machine.{are_subsets, sents_of}
 use Rattle.session_laws.proofs.Loose.{IsLoose, in_line_loose, wide_loose}
 use Rattle.session_laws.proofs.LooseSame.{Then, loose_same}
@@ -18,7 +21,7 @@ use Rattle.session_laws.proofs.Rows.{Same, in_line_by}
 use Rattle.session_laws.proofs.Touching.{then_ending}
 use Rattle.session_laws.proofs.Within.{Rise, plans_rise}
 
-module _ (r : Requester) where
+module _ (r : Asker) where
   abbrev PartBy : ℕ → Plan → List LogEntry → Option Abort → Type 0
   PartBy ordinal plan entries end = InLineBy r ordinal plan entries end ⊎ WideBy r ordinal plan entries end
 

@@ -11,7 +11,8 @@ use Rattle.session_grammar.specs.declared.logs.Answer.{Answer}
 use Rattle.session_grammar.specs.declared.logs.Answer.TheVariants.{Reply, PathFailed, Stamp}
 use Rattle.session_grammar.specs.declared.logs.LogEntry.{LogEntry}
 use Rattle.session_grammar.specs.Follows.{AfterRow, AreRows, IsList, IsSingle, joined}
-use Rattle.session_grammar.specs.Plans.{Requester, Sent}
+use Rattle.session_grammar.specs.Plans.{Asker}
+use Rattle.session_grammar.specs.declared.plans.Sent.{Sent}
 use Rattle.session_grammar.specs.Rows.{IsAsked, IsRow, failure, is_locked}
 use Rattle.session_laws.specs.Machine.{Asks, At, Place, Trying, after_ask, asking, see, undone, went_on}
 use Rattle.session_laws.specs.Leading.{Leads}
@@ -22,11 +23,11 @@ is_lock LockedOut = true
 is_lock abort = false
 
 -- the list of a request: of a subset, or a single one
-abbrev pub ListBy : Requester → ℕ → Bool → Sent → List LogEntry → Option Abort → Type 0
+abbrev pub ListBy : Asker → ℕ → Bool → Sent → List LogEntry → Option Abort → Type 0
 ListBy r ordinal true = IsList r ordinal
 ListBy r ordinal false = IsSingle r ordinal
 
-module _ (r : Requester) (t : Trying) (sents : List Sent) (statements : List Statement) where
+module _ (r : Asker) (t : Trying) (sents : List Sent) (statements : List Statement) where
   abbrev pub asks : List ℕ → Bool → ℕ → Ask → ℕ → Place
   asks seen subset part ask n = At t seen (Asks subset part ask n sents statements)
 

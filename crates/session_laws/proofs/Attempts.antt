@@ -15,7 +15,7 @@ use Rattle.session_grammar.specs.declared.logs.Answer.TheVariants.{Reply, PathFa
 use Rattle.session_grammar.specs.declared.logs.LogEntry.{LogEntry}
 use Rattle.session_grammar.specs.declared.logs.LogEntry.TheVariants.{Drew}
 use Rattle.session_grammar.specs.Follows.{AreAttempts, AreEnds, ArePrepares, AreTries, Attempt, IsAttempt, IsEnding, IsInLine, entries_of, greatest_of, joined, touched}
-use Rattle.session_grammar.specs.Plans.{Requester}
+use Rattle.session_grammar.specs.Plans.{Asker}
 use Rattle.session_laws.specs.Machine.{At, Over, Place, Prepares, Stamps, Trying, after_prepare, asking, behind, closes_at, closing, in_order, next, prepares_at, Send, statements_at, trying, undone, works_at}
 use Rattle.session_laws.specs.Leading.{Does, Leads}
 use Rattle.session_laws.proofs.Asking.{is_lock}
@@ -28,7 +28,7 @@ abbrev pub is_lock_end : Outcome → Bool
 is_lock_end (Aborted abort) = is_lock abort
 is_lock_end outcome = false
 
-module _ (r : Requester) (t : Trying) (seen : List ℕ) where
+module _ (r : Asker) (t : Trying) (seen : List ℕ) where
   ends_lead : (ask : Ask) (parts : List ℕ) (locked : Bool) (ends : List LogEntry) → AreEnds t.ordinal ask parts ends
       → Leads r (closes_at t seen ask parts locked (behind r t locked)) ends (behind r t locked)
   ends_lead ask [] locked [] h = refl
@@ -108,7 +108,7 @@ module _ (r : Requester) (t : Trying) (seen : List ℕ) where
     ending_on None h = ending_leads None t.work.commit h
     ending_on (Some abort) h = ending_leads (Some abort) t.work.commit h
 
-module _ (r : Requester) where
+module _ (r : Asker) where
   -- where a try begins
   abbrev pub try_at : ℕ → ℕ → Work → List Work → Place
   try_at ordinal more work works = statements_at r (trying ordinal more work works) [] work.statements (works_at r (ordinal + 1) works)

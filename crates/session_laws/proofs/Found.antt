@@ -5,13 +5,13 @@ use Rattle.std.specs.List.{AllByRecursion}
 use Rattle.sql_base.specs.declared.outcomes.Abort.{Abort}
 use Rattle.session_grammar.specs.declared.logs.LogEntry.{LogEntry}
 use Rattle.session_grammar.specs.Follows.{InTurn, joined}
-use Rattle.session_grammar.specs.Plans.{Requester}
+use Rattle.session_grammar.specs.Plans.{Asker}
 use Rattle.session_laws.specs.Machine.{Over, Place}
 use Rattle.session_laws.specs.Leading.{Leads}
 use Rattle.session_laws.proofs.Leading.{walk, walk-append}
 
 -- the front, its end, and the rest, which leads on from where the end leads
-pub record Cut (r : Requester) (G : List LogEntry → Option Abort → Type 0) (out : List ℕ → Option Abort → Place) (seen : List ℕ) (es : List LogEntry) : Type 0 where
+pub record Cut (r : Asker) (G : List LogEntry → Option Abort → Type 0) (out : List ℕ → Option Abort → Place) (seen : List ℕ) (es : List LogEntry) : Type 0 where
   pub front : List LogEntry
   pub rest : List LogEntry
   pub end : Option Abort
@@ -28,7 +28,7 @@ abbrev pub turning : {A : Type 0} → (List ℕ → List A → Place) → (List 
 turning entry out things seen None = entry seen things
 turning entry out things seen (Some abort) = out seen (Some abort)
 
-module _ (r : Requester) {A : Type 0} (R : A → List LogEntry → Option Abort → Type 0) (P : A → Type 0) (entry : List ℕ → List A → Place) (out : List ℕ → Option Abort → Place) (none : (seen : List ℕ) → entry seen [] ≡ out seen None) where
+module _ (r : Asker) {A : Type 0} (R : A → List LogEntry → Option Abort → Type 0) (P : A → Type 0) (entry : List ℕ → List A → Place) (out : List ℕ → Option Abort → Place) (none : (seen : List ℕ) → entry seen [] ≡ out seen None) where
   module _ (one : (thing : A) (things : List A) (seen : List ℕ) (es : List LogEntry) → P thing → Leads r (entry seen (thing ∷ things)) es Over → Cut r (R thing) (turning entry out things) seen es) where
     -- where one thing can be read off a log, all in turn can
     pub turns_found : (things : List A) (seen : List ℕ) (es : List LogEntry) → AllByRecursion P things → Leads r (entry seen things) es Over → Cut r (Turns R things) out seen es

@@ -10,7 +10,7 @@ use Rattle.sql_base.specs.declared.outcomes.Outcome.TheVariants.{RolledBack, Abo
 use Rattle.sql_base.specs.declared.scripts.Work.{Work}
 use Rattle.session_grammar.specs.declared.logs.LogEntry.{LogEntry}
 use Rattle.session_grammar.specs.Follows.{AreAttempts, AreTries, Attempt, IsAttempt, IsInLine, entries_of, joined, touched}
-use Rattle.session_grammar.specs.Plans.{Requester}
+use Rattle.session_grammar.specs.Plans.{Asker}
 use Rattle.session_laws.specs.Machine.{Over, Place, Trying, behind, in_order, trying, works_at}
 use Rattle.session_laws.specs.Leading.{Leads}
 use Rattle.session_laws.proofs.Attempts.{is_lock_end, try_at}
@@ -21,7 +21,7 @@ use Rattle.session_laws.proofs.Leading.{over_none, walk}
 use Rattle.session_laws.proofs.Parts.{parts_out}
 use Rattle.session_laws.proofs.Seen.{touched_seen}
 
-module _ (r : Requester) where
+module _ (r : Asker) where
   record Tried (ordinal more : ℕ) (work : Work) (works : List Work) (es : List LogEntry) : Type 0 where
     a : Attempt
     rest : List LogEntry

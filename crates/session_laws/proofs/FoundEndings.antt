@@ -15,7 +15,7 @@ use Rattle.session_grammar.specs.declared.logs.Answer.TheVariants.{Reply, PathFa
 use Rattle.session_grammar.specs.declared.logs.LogEntry.{LogEntry}
 use Rattle.session_grammar.specs.declared.logs.LogEntry.TheVariants.{Asked, Drew}
 use Rattle.session_grammar.specs.Follows.{AreEnds, ArePrepares, Attempt, IsEnding, greatest_of, touched}
-use Rattle.session_grammar.specs.Plans.{Requester}
+use Rattle.session_grammar.specs.Plans.{Asker}
 use Rattle.session_grammar.specs.Rows.{IsAsked, IsSent, fits, is_done, is_end}
 use Rattle.session_laws.specs.Machine.{At, Over, Place, Stamps, Trying, after_prepare, asking, behind, closes_at, closing, in_order, next, prepares_at, undone}
 use Rattle.session_laws.specs.Leading.{Leads, answer_of}
@@ -43,7 +43,7 @@ asked_done part ordinal ask answer e ending same h =
     let sent = asked_sent part (asking ordinal ask) answer e h in
     subst (λ a. IsAsked part (asking ordinal ask) a e) (done_answer ask sent.0 answer ending same sent.1) h
 
-module _ (r : Requester) (t : Trying) (seen : List ℕ) where
+module _ (r : Asker) (t : Trying) (seen : List ℕ) where
   record Ends (ask : Ask) (parts : List ℕ) (locked : Bool) (es : List LogEntry) : Type 0 where
     ends : List LogEntry
     rest : List LogEntry

@@ -15,7 +15,8 @@ use Rattle.session_grammar.specs.declared.logs.Answer.TheVariants.{Reply, PathFa
 use Rattle.session_grammar.specs.declared.logs.LogEntry.{LogEntry}
 use Rattle.session_grammar.specs.declared.logs.LogEntry.TheVariants.{Asked, Drew}
 use Rattle.session_grammar.specs.Follows.{AfterRow, AreRows, joined}
-use Rattle.session_grammar.specs.Plans.{Requester, Sent}
+use Rattle.session_grammar.specs.Plans.{Asker}
+use Rattle.session_grammar.specs.declared.plans.Sent.{Sent}
 use Rattle.session_grammar.specs.Rows.{IsAsked, IsRow, IsSent, failure, fits, fits_subset, is_locked}
 use Rattle.session_laws.specs.Machine.{Over, Place, Trying, after_ask, asking, see}
 use Rattle.session_laws.specs.Leading.{Leads, answer_of}
@@ -29,7 +30,7 @@ repeat_row : (n part : ℕ) (request : Request) (lock : Lock) (answer : Answer) 
 repeat_row n part request lock answer e [] h rest = absurd rest
 repeat_row n part request lock answer e (f ∷ fs) h rest = ((lock, h), rest)
 
-module _ (r : Requester) (t : Trying) (sents : List Sent) (statements : List Statement) where
+module _ (r : Asker) (t : Trying) (sents : List Sent) (statements : List Statement) where
   abbrev led : List ℕ → Bool → ℕ → Ask → ℕ → Answer → Place
   led seen subset part ask n answer = after_ask r t seen subset part ask n sents statements answer
 

@@ -5,7 +5,8 @@ use Rattle.sql_base.specs.declared.outcomes.Abort.{Abort}
 use Rattle.sql_base.specs.declared.statements.Statement.{Statement}
 use Rattle.session_grammar.specs.declared.logs.LogEntry.{LogEntry}
 use Rattle.session_grammar.specs.Follows.{IsInLine}
-use Rattle.session_grammar.specs.Plans.{Requester, Sent, plan_of}
+use Rattle.session_grammar.specs.Plans.{Asker, plan_of}
+use Rattle.session_grammar.specs.declared.plans.Sent.{Sent}
 use Rattle.session_laws.specs.Machine.{Over, Place, Trying, are_subsets, next, sents_of, statements_at, went_on}
 use Rattle.session_laws.specs.Leading.{Leads}
 use Rattle.session_laws.proofs.Asking.{ListBy, list_out}
@@ -16,7 +17,7 @@ use Rattle.session_laws.proofs.Parts.{in_turn_to, part_out, parts_out}
 use Rattle.session_laws.proofs.Plans.{Suits, plans_suit}
 
 -- the same front, said otherwise
-recut : (r : Requester) (G H : List LogEntry → Option Abort → Type 0) (out onto : List ℕ → Option Abort → Place) (seen : List ℕ) (es : List LogEntry)
+recut : (r : Asker) (G H : List LogEntry → Option Abort → Type 0) (out onto : List ℕ → Option Abort → Place) (seen : List ℕ) (es : List LogEntry)
     → ((front : List LogEntry) (end : Option Abort) → G front end → H front end) → ((s : List ℕ) (end : Option Abort) → out s end ≡ onto s end) → Cut r G out seen es → Cut r H onto seen es
 recut r G H out onto seen es to same c = record {
   front = c.front;
@@ -27,7 +28,7 @@ recut r G H out onto seen es to same c = record {
   leads = subst (λ (p : Place). Leads r p c.rest Over) (same (walk seen c.front) c.end) c.leads;
 }
 
-module _ (r : Requester) (t : Trying) where
+module _ (r : Asker) (t : Trying) where
   lists_found : (statements : List Statement) (subset : Bool) (sents : List Sent) (seen : List ℕ) (es : List LogEntry) → AllByRecursion (Suits subset) sents
       → Leads r (went_on r t seen subset sents statements) es Over → Cut r (Turns (ListBy r t.ordinal subset) sents) (part_out r t statements) seen es
   lists_found statements subset sents seen es suits h =

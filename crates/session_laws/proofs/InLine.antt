@@ -4,11 +4,11 @@ use Rattle.sql_base.specs.declared.outcomes.Abort.{Abort}
 use Rattle.sql_base.specs.declared.scripts.Work.{Work}
 use Rattle.session_grammar.specs.declared.logs.LogEntry.{LogEntry}
 use Rattle.session_grammar.specs.Follows.{Attempt, FollowsInLine, IsInLine, Reads}
-use Rattle.session_grammar.specs.Plans.{Requester}
+use Rattle.session_grammar.specs.Plans.{Asker}
 use Rattle.session_laws.proofs.Readings.{no_front, one_reading}
 use Rattle.session_laws.proofs.Rows.{in_line_same}
 
-module _ (r : Requester) where
+module _ (r : Asker) where
   abbrev Anything : Option Abort → List LogEntry → Type 0
   Anything end us = Unit {0}
 

@@ -4,12 +4,12 @@ use Rattle.dp_messages.specs.declared.requests.Request.{Request}
 use Rattle.session_grammar.specs.declared.logs.Answer.{Answer}
 use Rattle.session_grammar.specs.declared.logs.LogEntry.{LogEntry}
 use Rattle.session_grammar.specs.declared.logs.LogEntry.TheVariants.{Asked, Drew}
-use Rattle.session_grammar.specs.Plans.{Requester}
+use Rattle.session_grammar.specs.Plans.{Asker}
 use Rattle.session_grammar.specs.Rows.{IsAsked, IsSent}
 use Rattle.session_laws.specs.Machine.{Over, Place, Send, after, see}
 use Rattle.session_laws.specs.Leading.{Does, Leads, answer_of}
 
-module _ (r : Requester) where
+module _ (r : Asker) where
   -- a log leads as far as its parts lead one after the other
   pub Leads-append : (xs ys : List LogEntry) (p q t : Place) → Leads r p xs q → Leads r q ys t → Leads r p (xs ++ ys) t
   Leads-append [] ys p q t a b = subst (λ (x : Place). Leads r x ys t) (sym a) b

@@ -15,7 +15,8 @@ use Rattle.session_grammar.specs.declared.logs.Answer.TheVariants.{Reply}
 use Rattle.session_grammar.specs.declared.logs.LogEntry.{LogEntry}
 use Rattle.session_grammar.specs.declared.logs.LogEntry.TheVariants.{Asked, Drew}
 use Rattle.session_grammar.specs.Follows.{AfterRow, AreBegun, AreRows, AreTheirs, AreWide, InTurn, IsList, Together, joined, projection}
-use Rattle.session_grammar.specs.Plans.{Requester, Sent}
+use Rattle.session_grammar.specs.Plans.{Asker}
+use Rattle.session_grammar.specs.declared.plans.Sent.{Sent}
 use Rattle.session_grammar.specs.Rows.{IsAsked, IsRow, is_end, is_for}
 use Rattle.session_laws.proofs.Plans.{Suits}
 use Rattle.session_laws.proofs.Within.{Rise}
@@ -57,7 +58,7 @@ suits_work sent suits = by sent.ask suits
     by EndUndo h = let never = h (reply.Ended [] 0) in absurd (cc never)
     by other h = refl
 
-module _ (r : Requester) (ordinal : ℕ) where
+module _ (r : Asker) (ordinal : ℕ) where
   none_work : (part : ℕ) (rows : List (List LogEntry)) → rows ≡ [] → AllByRecursion (IsWork part) (joined rows)
   none_work part rows is = subst (λ (x : List (List LogEntry)). AllByRecursion (IsWork part) (joined x)) (sym is) tt
 

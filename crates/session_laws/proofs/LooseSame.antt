@@ -9,7 +9,8 @@ use Rattle.sql_base.specs.declared.outcomes.Abort.{Abort}
 use Rattle.session_grammar.specs.declared.logs.LogEntry.{LogEntry}
 use Rattle.session_grammar.specs.declared.logs.LogEntry.TheVariants.{Asked, Drew}
 use Rattle.session_grammar.specs.Follows.{IsList, projection}
-use Rattle.session_grammar.specs.Plans.{Requester, Sent}
+use Rattle.session_grammar.specs.Plans.{Asker}
+use Rattle.session_grammar.specs.declared.plans.Sent.{Sent}
 use Rattle.session_grammar.specs.Rows.{is_end, is_for}
 use Rattle.session_laws.proofs.Loose.{AreFronts, IsFront, IsLoose, IsWork, Loosely, all_behind, all_front, list_work}
 use Rattle.session_laws.proofs.Plans.{Suits}
@@ -41,7 +42,7 @@ none_some : {A : Type 0} (end : Option Abort) → None ≡ end → IsSome end �
 none_some None is some = absurd (cc some)
 none_some (Some abort) is some = absurd (cc is)
 
-module _ (r : Requester) (ordinal : ℕ) where
+module _ (r : Asker) (ordinal : ℕ) where
   -- the ends of one list are the same
   end_same : (sent : Sent) (list : List LogEntry) (e f : Option Abort) → IsList r ordinal sent list e → IsList r ordinal sent list f → e ≡ f
   end_same sent list e f h k = (list_same r ordinal sent list list [] [] e f h k refl).end

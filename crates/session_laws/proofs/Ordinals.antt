@@ -10,12 +10,13 @@ use Rattle.dp_messages.specs.declared.requests.Ask.TheVariants.{EndCommit, EndUn
 use Rattle.session_grammar.specs.declared.logs.Answer.{Answer}
 use Rattle.session_grammar.specs.declared.logs.Answer.TheVariants.{Reply, PathFailed, Stamp}
 use Rattle.session_grammar.specs.declared.logs.LogEntry.{LogEntry}
-use Rattle.session_grammar.specs.Plans.{Requester, Sent, plan_of}
+use Rattle.session_grammar.specs.Plans.{Asker, plan_of}
+use Rattle.session_grammar.specs.declared.plans.Sent.{Sent}
 use Rattle.session_laws.specs.Machine.{Asks, At, Closes, Doing, Over, Place, Prepares, Stamps, Trying, after, after_reply, are_subsets, behind, closes_at, closing, in_order, next, prepares_at, see, sents_at, sents_of, statements_at, trying, undone, went_on, works_at}
 use Rattle.session_laws.specs.Leading.{Leads, StandsAt, answer_of}
 use Rattle.session_laws.specs.Left.{times}
 
-module _ (r : Requester) (bound : ℕ) where
+module _ (r : Asker) (bound : ℕ) where
   -- the attempt, those that may follow it, and all of the transactions behind it
   abbrev pub Fits : Trying → Type 0
   Fits t = t.ordinal + t.restarts + times (length t.works) (r.limits.restart + 1) ≤ bound
@@ -92,7 +93,7 @@ module _ (r : Requester) (bound : ℕ) where
   leads_fit (e ∷ es) p q h led = leads_fit es (after r p (answer_of e)) q (after_fits p (answer_of e) h) led.1
 
 -- wherever a session stands
-pub few_attempts : (r : Requester) (works : List Work) (log : List LogEntry) (t : Trying) (seen : List ℕ) (doing : Doing) → StandsAt r works log (At t seen doing)
+pub few_attempts : (r : Asker) (works : List Work) (log : List LogEntry) (t : Trying) (seen : List ℕ) (doing : Doing) → StandsAt r works log (At t seen doing)
     → t.ordinal + t.restarts + times (length t.works) (r.limits.restart + 1) ≤ times (length works) (r.limits.restart + 1)
 few_attempts r works log t seen doing h =
     let all = times (length works) (r.limits.restart + 1) in

@@ -6,24 +6,27 @@ use Rattle.sql_base.specs.declared.outcomes.Abort.{Abort}
 use Rattle.sql_base.specs.declared.statements.Statement.{Statement}
 use Rattle.session_grammar.specs.declared.logs.LogEntry.{LogEntry}
 use Rattle.session_grammar.specs.Follows.{InLineBy, InTurn, IsInLine, joined}
-use Rattle.session_grammar.specs.Plans.{Plan, Requester, Sent, Singles, Subsets, plan_of}
+use Rattle.session_grammar.specs.Plans.{Asker, plan_of}
+use Rattle.session_grammar.specs.declared.plans.Plan.{Plan}
+use Rattle.session_grammar.specs.declared.plans.Plan.TheVariants.{Singles, Subsets}
+use Rattle.session_grammar.specs.declared.plans.Sent.{Sent}
 use Rattle.session_laws.specs.Machine.{Place, Trying, are_subsets, next, sents_of, statements_at, undone, went_on}
 use Rattle.session_laws.specs.Leading.{Leads}
 use Rattle.session_laws.proofs.Asking.{ListBy, is_lock, list_leads, list_out}
 use Rattle.session_laws.proofs.Leading.{Leads-append, walk, walk-append}
 
 -- the part of a statement in line is one list for each request of its plan, in turn
-pub in_turn_of : (r : Requester) (ordinal : ℕ) (plan : Plan) (entries : List LogEntry) (end : Option Abort) → InLineBy r ordinal plan entries end
+pub in_turn_of : (r : Asker) (ordinal : ℕ) (plan : Plan) (entries : List LogEntry) (end : Option Abort) → InLineBy r ordinal plan entries end
     → (lists : List (List LogEntry)) × (entries ≡ joined lists) × InTurn (ListBy r ordinal (are_subsets plan)) (sents_of plan) lists end
 in_turn_of r ordinal (Subsets sents) entries end h = h
 in_turn_of r ordinal (Singles sents) entries end h = h
 
-pub in_turn_to : (r : Requester) (ordinal : ℕ) (plan : Plan) (lists : List (List LogEntry)) (end : Option Abort)
+pub in_turn_to : (r : Asker) (ordinal : ℕ) (plan : Plan) (lists : List (List LogEntry)) (end : Option Abort)
     → InTurn (ListBy r ordinal (are_subsets plan)) (sents_of plan) lists end → InLineBy r ordinal plan (joined lists) end
 in_turn_to r ordinal (Subsets sents) lists end h = (lists, refl, h)
 in_turn_to r ordinal (Singles sents) lists end h = (lists, refl, h)
 
-module _ (r : Requester) (t : Trying) where
+module _ (r : Asker) (t : Trying) where
   -- where the end of a statement's part leads
   abbrev pub part_out : List Statement → List ℕ → Option Abort → Place
   part_out statements seen None = statements_at r t seen statements (next r t)

@@ -16,7 +16,10 @@ use Rattle.dp_messages.specs.declared.requests.Ask.{Ask}
 use Rattle.partition_map.specs.Map.{cut, part_of}
 use Rattle.range_finder.specs.Range.{range}
 use Rattle.dp_messages.specs.declared.requests.Ask.TheVariants.{BeginRead, BeginUpdate, BeginDelete, ReadKey}
-use Rattle.session_grammar.specs.Plans.{Plan, Requester, Sent, Singles, Subsets, begins, begins_in, filter_code, first_part, plan_of, plan_on, select_plan}
+use Rattle.session_grammar.specs.Plans.{Asker, begins, begins_in, filter_code, first_part, plan_of, plan_on, select_plan}
+use Rattle.session_grammar.specs.declared.plans.Plan.{Plan}
+use Rattle.session_grammar.specs.declared.plans.Plan.TheVariants.{Singles, Subsets}
+use Rattle.session_grammar.specs.declared.plans.Sent.{Sent}
 use Rattle.session_grammar.specs.Rows.{fits, fits_subset}
 use Rattle.session_laws.specs.Machine.{are_subsets, sents_of}
 
@@ -36,7 +39,7 @@ all_single (sent ∷ sents) = (tt, all_single sents)
 abbrev PlanSuits : Plan → Type 0
 PlanSuits plan = AllByRecursion (Suits (are_subsets plan)) (sents_of plan)
 
-module _ (r : Requester) (table : TableDef) where
+module _ (r : Asker) (table : TableDef) where
   begins_suit : (place : ℕ) (found : Option KeyRange) (begin : List ℕ → KeyRange → Ask) → ((granule : List ℕ) (piece : KeyRange) (x : PartitionReply) → fits (begin granule piece) x ≡ fits_subset x)
       → AllByRecursion (Suits true) (begins_in r table place found begin)
   begins_suit place None begin is = tt
@@ -63,7 +66,7 @@ module _ (r : Requester) (table : TableDef) where
   plan_suits (LockTable place mode) = all_single (sents_of (plan_on r table (LockTable place mode)))
 
 -- every plan suits
-pub plans_suit : (r : Requester) (s : Statement) → AllByRecursion (Suits (are_subsets (plan_of r s))) (sents_of (plan_of r s))
+pub plans_suit : (r : Asker) (s : Statement) → AllByRecursion (Suits (are_subsets (plan_of r s))) (sents_of (plan_of r s))
 plans_suit r s = found (slice_get r.tables (table_of s))
   where
     found : (o : Option TableDef) → PlanSuits (unwrap_or (option_map (λ table. plan_on r table s) o) (Subsets []))

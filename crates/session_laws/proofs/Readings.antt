@@ -18,7 +18,7 @@ use Rattle.session_grammar.specs.declared.logs.Answer.TheVariants.{Reply, PathFa
 use Rattle.session_grammar.specs.declared.logs.LogEntry.{LogEntry}
 use Rattle.session_grammar.specs.declared.logs.LogEntry.TheVariants.{Drew}
 use Rattle.session_grammar.specs.Follows.{AreAttempts, AreEnds, ArePrepares, AreTries, Attempt, Commits, InTurn, IsAttempt, IsEnding, LosesPrepare, Reads, entries_of, greatest_of, joined, touched}
-use Rattle.session_grammar.specs.Plans.{Requester}
+use Rattle.session_grammar.specs.Plans.{Asker}
 use Rattle.session_grammar.specs.Rows.{IsAsked}
 use Rattle.session_laws.specs.Leading.{answer_of}
 use Rattle.session_laws.proofs.Rows.{Same, asked_answer, behind_same, first_same, regroup, rest_same, turns_same}
@@ -128,7 +128,7 @@ same_attempt : (work work' : Work) (ordinal ordinal' : ℕ) (parts parts' : List
     → attempt work ordinal parts ending outcome ≡ attempt work' ordinal' parts' ending' outcome'
 same_attempt work work' ordinal ordinal' parts parts' ending ending' outcome outcome' w o p e out = cc
 
-module _ (r : Requester) (work : Work) (ordinal : ℕ) (parts : List (List LogEntry)) where
+module _ (r : Asker) (work : Work) (ordinal : ℕ) (parts : List (List LogEntry)) where
   abbrev of : List LogEntry → Outcome → Attempt
   of ending outcome = attempt work ordinal parts ending outcome
 
@@ -185,7 +185,7 @@ module _ (r : Requester) (work : Work) (ordinal : ℕ) (parts : List (List LogEn
   ending_same None true xs ys us vs a b (inl h) (inr k) is = absurd (never_both xs ys us vs a b h k is)
   ending_same None true xs ys us vs a b (inr h) (inl k) is = absurd (never_both ys xs vs us b a k h (sym is))
 
-module _ (P : Requester → ℕ → Statement → List LogEntry → Option Abort → Type 0) (r : Requester) (Then : Option Abort → List LogEntry → Type 0) (then_none : (us : List LogEntry) → Then None us)
+module _ (P : Asker → ℕ → Statement → List LogEntry → Option Abort → Type 0) (r : Asker) (Then : Option Abort → List LogEntry → Type 0) (then_none : (us : List LogEntry) → Then None us)
     (then_ending : (work : Work) (ordinal : ℕ) (a : Attempt) (end : Option Abort) → IsAttempt P r work ordinal a → InTurn (P r ordinal) work.statements a.parts end → IsEnding r a end work.commit → (us : List LogEntry) → Then end (a.ending ++ us))
     (one : (ordinal : ℕ) (s : Statement) (xs ys us vs : List LogEntry) (e f : Option Abort) → P r ordinal s xs e → P r ordinal s ys f → Then e us → Then f vs → xs ++ us ≡ ys ++ vs → Same xs ys e f) where
   attempts_same : (work : Work) (ordinal : ℕ) (a b : Attempt) (us vs : List LogEntry) → IsAttempt P r work ordinal a → IsAttempt P r work ordinal b → entries_of a ++ us ≡ entries_of b ++ vs → a ≡ b

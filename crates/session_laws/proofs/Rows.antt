@@ -13,7 +13,10 @@ use Rattle.session_grammar.specs.declared.logs.Answer.TheVariants.{Reply}
 use Rattle.session_grammar.specs.declared.logs.LogEntry.{LogEntry}
 use Rattle.session_grammar.specs.declared.logs.LogEntry.TheVariants.{Asked, Drew}
 use Rattle.session_grammar.specs.Follows.{AfterRow, AreRows, InLineBy, InTurn, IsInLine, IsList, IsSingle, joined}
-use Rattle.session_grammar.specs.Plans.{Plan, Requester, Sent, Singles, Subsets, plan_of}
+use Rattle.session_grammar.specs.Plans.{Asker, plan_of}
+use Rattle.session_grammar.specs.declared.plans.Plan.{Plan}
+use Rattle.session_grammar.specs.declared.plans.Plan.TheVariants.{Singles, Subsets}
+use Rattle.session_grammar.specs.declared.plans.Sent.{Sent}
 use Rattle.session_grammar.specs.Rows.{IsAsked, IsRow, failure, is_locked}
 use Rattle.session_laws.specs.Leading.{answer_of}
 
@@ -71,7 +74,7 @@ row_same (suc n) part request (e ∷ g ∷ xs) (f ∷ i ∷ ys) us vs a b h k is
     let same = first_same e f (g ∷ xs ++ us) (i ∷ ys ++ vs) is in
     record { row = ap (λ x. x ∷ g ∷ xs) same ∙ ap (λ x. f ∷ x) more.row; answer = more.answer }
 
-module _ (r : Requester) (ordinal : ℕ) where
+module _ (r : Asker) (ordinal : ℕ) where
   none_left : (ls ms : List (List LogEntry)) → ls ≡ [] → ms ≡ [] → joined ls ≡ joined ms
   none_left ls ms l m = ap joined (l ∙ sym m)
 
@@ -145,7 +148,7 @@ module _ {A : Type 0} (R : A → List LogEntry → Option Abort → Type 0) (The
       let same = one x l m (joined ls ++ us) (joined ms ++ vs) e f h.0 k.0 t_here u_here whole in
       record { lists = ap (λ y. y ∷ ls) same.front ∙ ap (λ y. m ∷ y) (h.2 ∙ sym k.2); end = same.end }
 
-module _ (r : Requester) (ordinal : ℕ) where
+module _ (r : Asker) (ordinal : ℕ) where
   pub in_line_by : (plan : Plan) (xs ys us vs : List LogEntry) (e f : Option Abort) → InLineBy r ordinal plan xs e → InLineBy r ordinal plan ys f → xs ++ us ≡ ys ++ vs → Same xs ys e f
   in_line_by (Subsets sents) xs ys us vs e f h k is =
       let same = turns_same (IsList r ordinal) (λ end list. Unit {0}) (λ list. tt) (λ x as1 as2 u v e1 e2 p q t1 t2. list_same r ordinal x as1 as2 u v e1 e2 p q) sents h.0 k.0 us vs e f h.2 k.2 tt tt

@@ -7,7 +7,7 @@ use Rattle.sql_base.specs.Scripts.{parts_of}
 use Rattle.session_grammar.specs.declared.logs.LogEntry.{LogEntry}
 use Rattle.session_grammar.specs.declared.logs.LogEntry.TheVariants.{Asked, Drew}
 use Rattle.session_grammar.specs.Follows.{Attempt, joined, touched}
-use Rattle.session_grammar.specs.Plans.{Requester}
+use Rattle.session_grammar.specs.Plans.{Asker}
 use Rattle.session_grammar.specs.Rows.{is_for}
 use Rattle.session_laws.specs.Machine.{has_seen, in_order, see}
 use Rattle.session_laws.proofs.Leading.{walk}
@@ -45,7 +45,7 @@ filter_same f g same [] = refl
 filter_same f g same (x ∷ xs) = ap (λ b. cond b (x ∷ filter f xs) (filter f xs)) (same x) ∙ ap (λ ys. cond (g x) (x ∷ ys) ys) (filter_same f g same xs)
 
 -- an attempt has touched just those that its parts have led it to
-pub touched_seen : (r : Requester) (a : Attempt) → in_order r (walk [] (joined a.parts)) ≡ touched r a
+pub touched_seen : (r : Asker) (a : Attempt) → in_order r (walk [] (joined a.parts)) ≡ touched r a
 touched_seen r a =
     filter_same (has_seen (walk [] (joined a.parts))) (λ part. list_any (is_for part) (joined a.parts))
     (λ part. has_walked part [] (joined a.parts) ∙ or_false (list_any (is_for part) (joined a.parts))) (range_with_len 0 (parts_of r.tables))

@@ -8,10 +8,9 @@ use Rattle.session_grammar.specs.declared.logs.LogEntry.{LogEntry}
 use Rattle.session_grammar.specs.declared.logs.LogEntry.TheVariants.{Asked, Drew}
 use Rattle.session_grammar.specs.Follows.{CountSyncs, FollowsInLine}
 use Rattle.session_grammar.specs.Sessions.{sync_behind}
-use Rattle.session_grammar.specs.Plans.{Requester}
+use Rattle.session_grammar.specs.Plans.{Asker}
 use Rattle.session_grammar.specs.Sessions.{MayCome, entries_kept}
-use Rattle.session_grammar.proofs.LogLists.{CountSyncs-append}
-use Rattle.requester_fs.proofs.Nexts.{CountSyncs-rest}
+use Rattle.session_grammar.proofs.LogLists.{CountSyncs-append, CountSyncs-rest}
 use Rattle.session_laws.specs.Machine.{Draw, Nothing, Over, Place, Send, Task, after, task_at, works_at}
 use Rattle.session_laws.specs.Leading.{BeginsInLine, Does, Leads, Rest, StandsAt, next_behind, next_of}
 use Rattle.session_laws.proofs.Attempts.{attempts_lead}
@@ -24,7 +23,7 @@ CountSyncs-front n [] ys h = tt
 CountSyncs-front n (Asked p s q l a ∷ xs) ys h = (h.0, CountSyncs-front (n + 1) xs ys h.1)
 CountSyncs-front n (Drew m f a ∷ xs) ys h = CountSyncs-front n xs ys h
 
-module _ (r : Requester) (works : List Work) where
+module _ (r : Asker) (works : List Work) where
   -- a log follows in line just where it leads from the first place to the end
   pub follows-leads : (log : List LogEntry) → FollowsInLine r works log → StandsAt r works log Over
   follows-leads log h = record {

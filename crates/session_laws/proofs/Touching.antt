@@ -16,14 +16,17 @@ use Rattle.session_grammar.specs.declared.logs.Answer.TheVariants.{Reply}
 use Rattle.session_grammar.specs.declared.logs.LogEntry.{LogEntry}
 use Rattle.session_grammar.specs.declared.logs.LogEntry.TheVariants.{Asked, Drew}
 use Rattle.session_grammar.specs.Follows.{AreEnds, AreRows, Attempt, InLineBy, InTurn, IsAttempt, IsEnding, IsList, IsPart, IsSingle, Together, WideBy, joined, projection, touched}
-use Rattle.session_grammar.specs.Plans.{Plan, Requester, Sent, Singles, Subsets, plan_of}
+use Rattle.session_grammar.specs.Plans.{Asker, plan_of}
+use Rattle.session_grammar.specs.declared.plans.Plan.{Plan}
+use Rattle.session_grammar.specs.declared.plans.Plan.TheVariants.{Singles, Subsets}
+use Rattle.session_grammar.specs.declared.plans.Sent.{Sent}
 use Rattle.session_grammar.specs.Rows.{IsAsked, IsRow, is_end, is_for}
 use Rattle.session_laws.specs.Machine.{sents_of}
 use Rattle.session_laws.proofs.LooseSame.{EndsNext, Then}
 use Rattle.session_laws.proofs.Within.{Rise, plans_rise}
 
 -- something was asked of a partition that is there
-abbrev Touches : Requester → List LogEntry → Type 0
+abbrev Touches : Asker → List LogEntry → Type 0
 Touches r entries = (part : ℕ) × (part < parts_of r.tables) × (list_any (is_for part) entries ≡ true)
 
 any_front : (f : LogEntry → Bool) (xs ys : List LogEntry) → list_any f xs ≡ true → list_any f (xs ++ ys) ≡ true
@@ -56,7 +59,7 @@ row_for n part request (e ∷ []) rest answer h = or_left (is_for part e) (list_
 row_for zero part request (e ∷ f ∷ es) rest answer h = absurd h
 row_for (suc n) part request (e ∷ f ∷ es) rest answer h = or_left (is_for part e) (list_any (is_for part) (f ∷ es ++ rest)) (asked_for part request (Reply (reply.Locked h.0.0)) e h.0.1)
 
-module _ (r : Requester) (ordinal : ℕ) where
+module _ (r : Asker) (ordinal : ℕ) where
   list_for : (sent : Sent) (list : List LogEntry) (end : Option Abort) → IsList r ordinal sent list end → list_any (is_for sent.part) list ≡ true
   list_for sent list end h = by h.0 h.1 h.2
     where
@@ -130,7 +133,7 @@ some_is : (abort : Abort) → IsSome (Some abort)
 some_is abort = refl
 
 -- behind the parts of an attempt comes what may
-pub then_ending : (r : Requester) (work : Work) (ordinal : ℕ) (a : Attempt) (end : Option Abort) → IsAttempt IsPart r work ordinal a → InTurn (IsPart r ordinal) work.statements a.parts end → IsEnding r a end work.commit
+pub then_ending : (r : Asker) (work : Work) (ordinal : ℕ) (a : Attempt) (end : Option Abort) → IsAttempt IsPart r work ordinal a → InTurn (IsPart r ordinal) work.statements a.parts end → IsEnding r a end work.commit
     → (us : List LogEntry) → Then end (a.ending ++ us)
 then_ending r work ordinal a None is turns ending us = tt
 then_ending r work ordinal a (Some abort) is turns ending us =

@@ -20,7 +20,9 @@ use Rattle.dp_messages.specs.declared.requests.Ask.TheVariants as ask
 use Rattle.partition_map.specs.declared.Piece.{Piece}
 use Rattle.partition_map.specs.Map.{high_of, low_of, part_of, piece_of}
 use Rattle.range_finder.specs.Range.{range}
-use Rattle.session_grammar.specs.Plans.{Requester, Sent, Singles, Subsets, all_columns, begins, begins_in, filter_code, first_part, plan_of, plan_on, select_plan}
+use Rattle.session_grammar.specs.Plans.{Asker, all_columns, begins, begins_in, filter_code, first_part, plan_of, plan_on, select_plan}
+use Rattle.session_grammar.specs.declared.plans.Plan.TheVariants.{Singles, Subsets}
+use Rattle.session_grammar.specs.declared.plans.Sent.{Sent}
 use Rattle.session_laws.specs.Machine.{sents_of}
 
 -- the partitions rise from `low` on, and stay below `high`
@@ -49,7 +51,7 @@ first_within (t ∷ tables) (suc place) table is =
 part_within : (table : TableDef) (key : List ℕ) → part_of table key < length table.firsts + 1
 part_within table key = omega (arith, count_by-le-length (λ first. key_le first key) (first_keys table), length-map table.firsts (first_key table))
 
-module _ (r : Requester) (table : TableDef) (there : ℕ) where
+module _ (r : Asker) (table : TableDef) (there : ℕ) where
   abbrev end : ℕ
   end = first_part r there + (length table.firsts + 1)
 
@@ -98,7 +100,7 @@ module _ (r : Requester) (table : TableDef) (there : ℕ) where
       by_test true = one_rises (ask.ReadKey access whole.low (filter_code predicate) columns) whole.low
       by_test false = begins_rise (Some whole) (λ granule piece. ask.BeginRead access granule piece (filter_code predicate) columns)
 
-plan_rises : (r : Requester) (table : TableDef) (s : Statement) → Rise 0 (end r table (table_of s)) (sents_of (plan_on r table s))
+plan_rises : (r : Asker) (table : TableDef) (s : Statement) → Rise 0 (end r table (table_of s)) (sents_of (plan_on r table s))
 plan_rises r table (Select there columns predicate access) = select_rises r table there access predicate columns (range table predicate)
 plan_rises r table (Update there sets predicate access) =
     begins_rise r table there (range table predicate) (λ granule piece. ask.BeginUpdate access granule piece (filter_code predicate) (sets_code sets))
@@ -109,7 +111,7 @@ plan_rises r table (LockTable there mode) =
     (locks_rise r table there (λ part. ask.LockGranule [] mode) (length table.firsts + 1) 0)
 
 -- every plan does
-pub plans_rise : (r : Requester) (s : Statement) → Rise 0 (parts_of r.tables) (sents_of (plan_of r s))
+pub plans_rise : (r : Asker) (s : Statement) → Rise 0 (parts_of r.tables) (sents_of (plan_of r s))
 plans_rise r s = found (slice_get r.tables (table_of s)) refl
   where
     found : (o : Option TableDef) → slice_get r.tables (table_of s) ≡ o → Rise 0 (parts_of r.tables) (sents_of (unwrap_or (option_map (λ table. plan_on r table s) o) (Subsets [])))

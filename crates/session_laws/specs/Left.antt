@@ -6,7 +6,8 @@ use Rattle.sql_base.specs.declared.statements.Statement.{Statement}
 use Rattle.dp_messages.specs.declared.replies.Reply.TheVariants as reply
 use Rattle.session_grammar.specs.declared.logs.Answer.{Answer}
 use Rattle.session_grammar.specs.declared.logs.Answer.TheVariants.{Reply}
-use Rattle.session_grammar.specs.Plans.{Requester, Sent, plan_of}
+use Rattle.session_grammar.specs.Plans.{Asker, plan_of}
+use Rattle.session_grammar.specs.declared.plans.Sent.{Sent}
 use Rattle.session_laws.specs.Machine.{Asks, At, Closes, Doing, Over, Place, Prepares, Stamps, Trying, sents_of}
 
 -- so many answers, each so often
@@ -14,7 +15,7 @@ abbrev pub times : ℕ → ℕ → ℕ
 times zero each = 0
 times (suc n) each = each + times n each
 
-module _ (r : Requester) (n : ℕ) where
+module _ (r : Asker) (n : ℕ) where
   -- the answers to one request that is redriven at most `spare` times more
   abbrev pub rows_left : ℕ → ℕ → ℕ
   rows_left spare repeats = times spare (r.limits.patience + 1) + repeats + 1

@@ -12,7 +12,10 @@ use Rattle.dp_messages.specs.declared.requests.Ask.TheVariants.{Continue, Prepar
 use Rattle.dp_messages.specs.declared.requests.Request.{Request}
 use Rattle.session_grammar.specs.declared.logs.Answer.{Answer}
 use Rattle.session_grammar.specs.declared.logs.Answer.TheVariants.{Reply, PathFailed, Stamp}
-use Rattle.session_grammar.specs.Plans.{Plan, Requester, Sent, Singles, Subsets, plan_of}
+use Rattle.session_grammar.specs.Plans.{Asker, plan_of}
+use Rattle.session_grammar.specs.declared.plans.Plan.{Plan}
+use Rattle.session_grammar.specs.declared.plans.Plan.TheVariants.{Singles, Subsets}
+use Rattle.session_grammar.specs.declared.plans.Sent.{Sent}
 
 -- an attempt: its ordinal, how many may follow it, its transaction, and the transactions behind that
 pub record Trying : Type 0 where
@@ -46,13 +49,13 @@ pub data Task : Type 0 where
 abbrev pub asking : ℕ → Ask → Request
 asking ordinal ask = record { ordinal = ordinal; ask = ask }
 
-abbrev pub task_of : Requester → ℕ → Doing → Task
+abbrev pub task_of : Asker → ℕ → Doing → Task
 task_of r ordinal (Asks subset part ask repeats sents statements) = Send part (asking ordinal ask)
 task_of r ordinal (Prepares part parts floor) = Send part (asking ordinal Prepare)
 task_of r ordinal (Stamps floor) = Draw (record { session = r.number; ordinal = ordinal }) floor
 task_of r ordinal (Closes ask part parts locked) = Send part (asking ordinal ask)
 
-abbrev pub task_at : Requester → Place → Task
+abbrev pub task_at : Asker → Place → Task
 task_at r (At t seen doing) = task_of r t.ordinal doing
 task_at r Over = Nothing
 
@@ -72,7 +75,7 @@ abbrev pub see : ℕ → List ℕ → List ℕ
 see part seen = if has_seen seen part then seen else part ∷ seen
 
 -- those partitions in rising number
-abbrev pub in_order : Requester → List ℕ → List ℕ
+abbrev pub in_order : Asker → List ℕ → List ℕ
 in_order r seen = filter (has_seen seen) (range_with_len 0 (parts_of r.tables))
 
 -- an end for each of these partitions, and then what is behind them
@@ -85,17 +88,17 @@ prepares_at t seen [] floor = At t seen (Stamps floor)
 prepares_at t seen (part ∷ parts) floor = At t seen (Prepares part parts floor)
 
 -- the statements are done: the commit, or the undoing, behind which `next` comes
-abbrev pub closing : Requester → Trying → List ℕ → Bool → Place → Place
+abbrev pub closing : Asker → Trying → List ℕ → Bool → Place → Place
 closing r t seen true next = prepares_at t seen (in_order r seen) 0
 closing r t seen false next = closes_at t seen EndUndo (in_order r seen) false next
 
 -- the requests of a statement; where none is left, what is behind them
-abbrev pub sents_at : Requester → Trying → List ℕ → Bool → List Sent → List Statement → Place → Place
+abbrev pub sents_at : Asker → Trying → List ℕ → Bool → List Sent → List Statement → Place → Place
 sents_at r t seen subset [] statements behind = behind
 sents_at r t seen subset (sent ∷ sents) statements behind = At t seen (Asks subset sent.part sent.ask r.limits.patience sents statements)
 
 -- the statements, up to the first that asks anything
-abbrev pub statements_at : Requester → Trying → List ℕ → List Statement → Place → Place
+abbrev pub statements_at : Asker → Trying → List ℕ → List Statement → Place → Place
 statements_at r t seen [] next = closing r t seen t.work.commit next
 statements_at r t seen (s ∷ statements) next =
     sents_at r t seen (are_subsets (plan_of r s)) (sents_of (plan_of r s)) statements (statements_at r t seen statements next)
@@ -104,43 +107,43 @@ abbrev pub trying : ℕ → ℕ → Work → List Work → Trying
 trying ordinal restarts work works = record { ordinal = ordinal; restarts = restarts; work = work; works = works }
 
 -- the transactions, from this ordinal on
-abbrev pub works_at : Requester → ℕ → List Work → Place
+abbrev pub works_at : Asker → ℕ → List Work → Place
 works_at r ordinal [] = Over
 works_at r ordinal (work ∷ works) = statements_at r (trying ordinal r.limits.restart work works) [] work.statements (works_at r (ordinal + 1) works)
 
 -- behind an attempt that was the last of its transaction
-abbrev pub next : Requester → Trying → Place
+abbrev pub next : Asker → Trying → Place
 next r t = works_at r (t.ordinal + 1) t.works
 
 -- the transaction is tried again
-abbrev pub retried : Requester → Trying → ℕ → Place
+abbrev pub retried : Asker → Trying → ℕ → Place
 retried r t zero = next r t
 retried r t (suc restarts) =
     statements_at r (trying (t.ordinal + 1) restarts t.work t.works) [] t.work.statements (works_at r (t.ordinal + 1 + 1) t.works)
 
 -- behind an attempt that failed by a lock, or ended otherwise
-abbrev pub behind : Requester → Trying → Bool → Place
+abbrev pub behind : Asker → Trying → Bool → Place
 behind r t true = retried r t t.restarts
 behind r t false = next r t
 
-abbrev pub undone : Requester → Trying → List ℕ → Bool → Place
+abbrev pub undone : Asker → Trying → List ℕ → Bool → Place
 undone r t seen locked = closes_at t seen EndUndo (in_order r seen) locked (behind r t locked)
 
 -- after Locked the same goes out again, or the attempt fails
-abbrev pub repeated : Requester → Trying → List ℕ → Bool → ℕ → Ask → ℕ → List Sent → List Statement → Place
+abbrev pub repeated : Asker → Trying → List ℕ → Bool → ℕ → Ask → ℕ → List Sent → List Statement → Place
 repeated r t seen subset part ask zero sents statements = undone r t seen true
 repeated r t seen subset part ask (suc repeats) sents statements = At t seen (Asks subset part ask repeats sents statements)
 
 -- a request is done: the next one of its statement, or what is behind that
-abbrev pub went_on : Requester → Trying → List ℕ → Bool → List Sent → List Statement → Place
+abbrev pub went_on : Asker → Trying → List ℕ → Bool → List Sent → List Statement → Place
 went_on r t seen subset sents statements = sents_at r t seen subset sents statements (statements_at r t seen statements (next r t))
 
 -- a subset goes on behind the last key of a redrive
-abbrev pub redriven : Requester → Trying → List ℕ → Bool → ℕ → Ask → List Sent → List Statement → Place
+abbrev pub redriven : Asker → Trying → List ℕ → Bool → ℕ → Ask → List Sent → List Statement → Place
 redriven r t seen true part ask sents statements = At t seen (Asks true part ask r.limits.patience sents statements)
 redriven r t seen false part ask sents statements = went_on r t seen false sents statements
 
-abbrev pub after_reply : Requester → Trying → List ℕ → Bool → ℕ → Ask → ℕ → List Sent → List Statement → PartitionReply → Place
+abbrev pub after_reply : Asker → Trying → List ℕ → Bool → ℕ → Ask → ℕ → List Sent → List Statement → PartitionReply → Place
 after_reply r t seen subset part ask repeats sents statements (reply.Redrive number last cause rows changed) =
     redriven r t seen subset part (Continue number last) sents statements
 after_reply r t seen subset part ask repeats sents statements (reply.Locked lock) = repeated r t seen subset part ask repeats sents statements
@@ -148,26 +151,26 @@ after_reply r t seen subset part ask repeats sents statements (reply.Failed key 
 after_reply r t seen subset part ask repeats sents statements (reply.DuplicateKey key) = undone r t seen false
 after_reply r t seen subset part ask repeats sents statements other = went_on r t seen subset sents statements
 
-abbrev pub after_ask : Requester → Trying → List ℕ → Bool → ℕ → Ask → ℕ → List Sent → List Statement → Answer → Place
+abbrev pub after_ask : Asker → Trying → List ℕ → Bool → ℕ → Ask → ℕ → List Sent → List Statement → Answer → Place
 after_ask r t seen subset part ask repeats sents statements (Reply x) = after_reply r t seen subset part ask repeats sents statements x
 after_ask r t seen subset part ask repeats sents statements PathFailed = undone r t seen false
 after_ask r t seen subset part ask repeats sents statements (Stamp stamp) = went_on r t seen subset sents statements
 
-abbrev pub after_prepare : Requester → Trying → List ℕ → List ℕ → ℕ → Answer → Place
+abbrev pub after_prepare : Asker → Trying → List ℕ → List ℕ → ℕ → Answer → Place
 after_prepare r t seen parts floor (Reply (reply.Floor f)) = prepares_at t seen parts (max floor f)
 after_prepare r t seen parts floor answer = undone r t seen false
 
-abbrev pub after_stamp : Requester → Trying → List ℕ → Answer → Place
+abbrev pub after_stamp : Asker → Trying → List ℕ → Answer → Place
 after_stamp r t seen (Stamp stamp) = closes_at t seen (EndCommit stamp) (in_order r seen) false (next r t)
 after_stamp r t seen answer = undone r t seen false
 
-abbrev pub after_doing : Requester → Trying → List ℕ → Doing → Answer → Place
+abbrev pub after_doing : Asker → Trying → List ℕ → Doing → Answer → Place
 after_doing r t seen (Asks subset part ask repeats sents statements) answer = after_ask r t (see part seen) subset part ask repeats sents statements answer
 after_doing r t seen (Prepares part parts floor) answer = after_prepare r t seen parts floor answer
 after_doing r t seen (Stamps floor) answer = after_stamp r t seen answer
 after_doing r t seen (Closes ask part parts locked) answer = closes_at t seen ask parts locked (behind r t locked)
 
 -- where an answer leads
-abbrev pub after : Requester → Place → Answer → Place
+abbrev pub after : Asker → Place → Answer → Place
 after r (At t seen doing) answer = after_doing r t seen doing answer
 after r Over answer = Over

@@ -1,7 +1,7 @@
 -- Faults, and which of them counts.
 use Rattle.std.specs.Prelude.{ℕ, Bool, true, ◌&&◌, ◌||◌, ◌==◌, nat_lt, nat_le, Option, Some, None, if◌then◌else◌}
 use Rattle.statement_draft.specs.declared.faults.Reason.{Reason}
-use Rattle.statement_draft.specs.declared.faults.Reason.TheVariants.{TooLarge, BadByte, OpenText, NumberTooWide, TextTooLong, Unexpected, UnknownName, Repeated, WrongType, OverLimit, NotRising, CheckFails, NotYet}
+use Rattle.statement_draft.specs.declared.faults.Reason.TheVariants.{TooLarge, BadByte, OpenText, NumberTooWide, TextTooLong, Unexpected, UnknownName, Repeated, WrongType, OverLimit, NotRising, CheckFails}
 use Rattle.statement_draft.specs.declared.faults.Fault.{Fault}
 
 abbrev pub number : Reason → ℕ
@@ -17,7 +17,6 @@ number WrongType = 9
 number OverLimit = 10
 number NotRising = 11
 number CheckFails = 12
-number NotYet = 13
 
 -- the place that is first in the text counts, at one place the reason of the smaller number
 abbrev pub stands_before : Fault → Fault → Bool

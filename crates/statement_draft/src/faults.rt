@@ -17,8 +17,6 @@ pub enum Reason {
     OverLimit,
     NotRising,
     CheckFails,
-    /// A script that is read, and isn't run yet.
-    NotYet,
 }
 
 /// A fault of the word or the end at this byte, counted from 0.
@@ -44,7 +42,6 @@ fn number(reason: Reason) -> u8
         Reason::OverLimit => 10,
         Reason::NotRising => 11,
         Reason::CheckFails => 12,
-        Reason::NotYet => 13,
     }
 }
 
