@@ -1,0 +1,4 @@
+pub mod Served
+pub mod Failing
+pub mod States
+pub mod Laws

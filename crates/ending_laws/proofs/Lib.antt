@@ -1,0 +1,11 @@
+pub mod Counts
+pub mod Members
+pub mod CellKeys
+pub mod Redrives
+pub mod Asked
+pub mod Inserts
+pub mod Opened
+pub mod Histories
+pub mod Advancing
+pub mod Measures
+pub mod Acts
