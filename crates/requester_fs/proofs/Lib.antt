@@ -1,7 +1,8 @@
+pub mod Asked
+pub mod Keeping
+pub mod Lasting
 pub mod Lists
-pub mod ThinPlans
-pub mod Attempts
-pub mod Complete
-pub mod Sound
-pub mod Standing
-pub mod Nexts
+pub mod Logs
+pub mod Ordinals
+pub mod Spelled
+pub mod Walks

@@ -1,16 +1,28 @@
--- Logs that lead from place to place, joined end to end.
-use Rattle.std.proofs.Common.{ℕ, List, [], ◌∷◌, ◌++◌, sym, subst}
-use Rattle.session_grammar.specs.declared.logs.LogEntry.{LogEntry}
-use Rattle.requester_fs.specs.declared.places.Place.{Place}
-use Rattle.requester_fs.specs.Leading.{Leads, place_behind}
+-- Lists by their places.
+use Rattle.std.proofs.Common.{◌≡◌, ◌<◌, ℕ, zero, suc, ◌+◌, List, [], ◌∷◌, length, drop, Some, None, refl, ap, sym, ◌∙◌, arith}
+use Rattle.std.specs.Prelude.{slice_get, IfSome}
+use Rattle.std.specs.List.{AllByRecursion}
 
-module _ (patience number : ℕ) where
-  -- a log leads as far as its parts lead one after the other
-  pub Leads-append : (xs ys : List LogEntry) (p q t : Place) → Leads patience number p xs q → Leads patience number q ys t → Leads patience number p (xs ++ ys) t
-  Leads-append [] ys p q t a b = subst (λ x. Leads patience number x ys t) (sym a) b
-  Leads-append (e ∷ xs) ys p q t a b = (a.0, Leads-append xs ys (place_behind patience p e) q t a.1 b)
+-- the list from a place on, and where it has nothing more
+pub drop_first : {A : Type 0} (xs : List A) (n : ℕ) (x : A) → slice_get xs n ≡ Some x → drop n xs ≡ x ∷ drop (n + 1) xs
+drop_first [] n x is = absurd (cc is)
+drop_first {A = A} (y ∷ ys) zero x is = let same : y ≡ x = cc is in ap (λ (z : A). z ∷ ys) same
+drop_first (y ∷ ys) (suc n) x is = let next : suc n + 1 ≡ suc (n + 1) = omega arith in drop_first ys n x is ∙ ap (λ k. x ∷ drop k (y ∷ ys)) (sym next)
 
-  -- and what is behind a part leads on from where the part leads
-  pub Leads-rest : (xs ys : List LogEntry) (p q t : Place) → Leads patience number p xs q → Leads patience number p (xs ++ ys) t → Leads patience number q ys t
-  Leads-rest [] ys p q t a b = subst (λ x. Leads patience number x ys t) a b
-  Leads-rest (e ∷ xs) ys p q t a b = Leads-rest xs ys (place_behind patience p e) q t a.1 b.1
+pub drop_none : {A : Type 0} (xs : List A) (n : ℕ) → slice_get xs n ≡ None → drop n xs ≡ []
+drop_none [] zero is = refl
+drop_none [] (suc n) is = refl
+drop_none (y ∷ ys) zero is = absurd (cc is)
+drop_none (y ∷ ys) (suc n) is = drop_none ys n is
+
+-- what holds of each holds of the one at a place
+pub all_at : {A : Type 0} (P : A → Type 0) (xs : List A) (n : ℕ) → AllByRecursion P xs → IfSome (slice_get xs n) P
+all_at P [] zero all = tt
+all_at P [] (suc n) all = tt
+all_at P (y ∷ ys) zero all = all.0
+all_at P (y ∷ ys) (suc n) all = all_at P ys n all.1
+
+pub some_at : {A : Type 0} (xs : List A) (n : ℕ) → n < length xs → (x : A) × (slice_get xs n ≡ Some x)
+some_at [] n lt = absurd (omega (arith, lt))
+some_at (x ∷ xs) zero lt = (x, refl)
+some_at (x ∷ xs) (suc n) lt = some_at xs n (omega (arith, lt))

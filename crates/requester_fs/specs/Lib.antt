@@ -1,3 +1,4 @@
-pub mod Thin
-pub mod Places
-pub mod Leading
+pub mod Asking
+pub mod Lasting
+pub mod Stages
+pub mod Working

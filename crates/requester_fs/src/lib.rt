@@ -1,7 +1,12 @@
-//! The requester's side: how a session turns its statements into requests, and the log of what came back.
+//! The requester's side: how the statements of a session become requests, and the log of what came back.
 #![tactic(auto)]
 
-mod places;
+mod closings;
+mod requesters;
 mod sessions;
+mod stages;
+mod turning;
+mod walking;
 
+pub use requesters::Requester;
 pub use sessions::Session;

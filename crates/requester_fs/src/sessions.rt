@@ -1,116 +1,141 @@
 //! A session: what it asks next, and the log of what it was answered.
 ghost use Rattle.std.specs.Prelude.{◌≡◌, ◌≤◌, ◌<◌, ◌+◌, ◌^◌, ℕ, List, [], ◌∷◌, ◌++◌, length, IsTrue, IfOk, OnOk, OnErr};
-ghost use Rattle.sql_base.specs.Scripts.{Lies};
-ghost use Rattle.sql_base.specs.declared.scripts.Script.{Script as AnyScript};
+ghost use Rattle.sql_base.specs.Scripts.{IsScript, Lies, parts_of};
+ghost use Rattle.dp_messages.specs.Spelling.{IsAsk};
+ghost use Rattle.session_grammar.specs.Follows.{in_line, works_of};
 ghost use Rattle.session_grammar.specs.Rows.{fits};
+ghost use Rattle.session_grammar.specs.Sessions.{IsSessionOf, MayCome, entries_kept, fits_next, shown, sync_behind};
+ghost use Rattle.session_grammar.specs.UnderWay.{Awaiting};
 ghost use Rattle.session_grammar.specs.declared.logs.Answer.TheVariants as came;
-ghost use Rattle.requester_fs.specs.Leading.{next_of, sync_after};
-ghost use Rattle.session_grammar.specs.Sessions.{Ends, shown, fits_next, MayCome, entries_kept, IsSessionOf};
-ghost use Rattle.requester_fs.specs.Thin.{IsThin};
+ghost use Rattle.session_grammar.specs.declared.logs.LogEntry.{LogEntry as Entry};
+ghost use Rattle.requester_fs.specs.Asking.{Advances, HasTaken, IsAsking, IsSame, IsSpelled, next_at, places_of};
+ghost use Rattle.requester_fs.specs.Stages.{way_in};
+ghost use Rattle.requester_fs.specs.Lasting.{answers_left};
+ghost use Rattle.requester_fs.specs.Working.{working};
 
-use crate::places::{Place, Task};
+use crate::requesters::Requester;
+use crate::stages::{Stage, Stand};
+use crate::walking::Planner;
 use dp_messages::{Ask, Reply};
 use session_grammar::{Action, Answer, LogEntry};
-use sql_base::{Limits, List, NoMemory, Script, TxnName};
+use sql_base::{List, NoMemory, Script, TableDef, TxnName, Work};
 use std::alloc::Global;
 use std::marker::Model;
 use std::mem;
 
-/// The partition of the table.
-const PART: u32 = 0;
-
 /// A session at work: it says what is to be done next, takes what came of it, and keeps its log.
 #[derive(Debug, Drop)]
-pub struct Session {
+pub struct Session<'a> {
     alloc: Global,
-    limits: Limits,
+    script: &'a Script,
     number: u32,
-    place: Place,
+    /// How many partitions the tables have.
+    parts: u32,
+    stand: Option<Stand>,
     /// The sync of the next request.
     sync: u64,
-    task: Task,
     log: Vec<LogEntry>,
 }
 
-impl Model for Session {
-    ghost use Rattle.std.specs.Prelude.{◌≤◌, ◌+◌, vec_len};
-    ghost use Rattle.session_grammar.specs.Sessions.{Working};
-    ghost use Rattle.requester_fs.specs.Leading.{next_of, StandsAt};
+impl<'a> Model for Session<'a> {
+    ghost use Rattle.std.specs.Coded.{codes};
+    ghost use Rattle.sql_base.specs.contracts.expressions.Expr as expr;
+    ghost use Rattle.requester_fs.specs.Asking.{Asking};
 
-    ghost Value = { Working };
+    ghost Value = { Asking };
 
-    ghost view = { λ s. record { limits = s.limits; number = s.number; log = s.log.items; next = next_of s.number s.sync s.place.ordinal s.task } };
+    ghost coded = { Prim.hlevel (codes, expr.the_row.coded) };
 
-    ghost invariant = { λ s. StandsAt s.limits s.number s.place s.sync s.task s.log.items × (s.sync ≤ vec_len s.log + 1) };
+    ghost use Rattle.requester_fs.specs.Stages.{way_of};
+    ghost use Rattle.requester_fs.specs.Working.{IsWorking};
+
+    ghost view = { λ s. record { script = s.script.now; number = s.number; log = s.log.items; way = way_of s.number s.sync s.stand } };
+
+    ghost invariant = { λ s. IsWorking s.script.now s.number s.parts s.stand s.sync s.log.items };
 }
 
-impl Session {
+impl<'a> Session<'a> {
     /// The session of this number at its beginning. Sessions count from 1.
-    pub fn new(alloc: Global, script: &Script, number: u32) -> Result<Session, NoMemory>
-        requires thin { IsThin script.now }
+    pub fn new(alloc: Global, script: &'a Script, number: u32) -> Result<Session<'a>, NoMemory>
+        requires script { IsScript script.now }
         requires numbered { Lies 1 (length script.now.sessions) number }
+        ensures script { IfOk result (λ session. session.script ≡ script.now) }
+        ensures number { IfOk result (λ session. session.number ≡ number) }
         ensures begins { IfOk result (λ session. session.log ≡ []) }
-        ensures session { IfOk result (IsSessionOf script.now number) }
+        ensures asking { IfOk result (λ session. IsAsking session) }
+        ensures one { IfOk result (λ session. places_of session.way ≡ 1) }
+        ensures exact { IfOk result (λ session. IsSessionOf script.now number (working session)) }
     {
-        let place = Place::first(&script.limits);
-        let task = place.task(alloc)?;
+        let parts = parts_of(script.tables.items());
+        let planner = Planner {
+            alloc,
+            script,
+            parts,
+        };
+        let stand = planner.first(works_of(script, number), 0, 1)?;
         Ok(Session {
             alloc,
-            limits: script.limits,
+            script,
             number,
-            place,
+            parts,
+            stand,
             sync: 1,
-            task,
             log: Vec::new(alloc),
         })
     }
 
     /// What is to be done next.
     pub fn next(&self) -> Action<'_>
-        ensures { shown result ≡ self.now.next }
+        ensures next { shown result ≡ next_at self.now.way 0 }
+        ensures one { places_of self.now.way ≡ 1 }
+        ensures exact { IsSessionOf self.now.script self.now.number (working self.now) }
     {
-        match &self.task {
-            Task::Send(request) => Action::Send {
-                part: PART,
-                sync: self.sync,
-                request,
-            },
-            Task::Commit { floor } => Action::Commit {
-                name: name(self.number, self.place.ordinal),
-                floor: *floor,
-            },
-            Task::Nothing => Action::Finished,
+        match &self.stand {
+            Some(stand) => action(stand, self.number, self.sync),
+            None => Action::Finished,
         }
     }
 
     /// Takes what came of the next action, after so many losses. For want of memory the session stays as it was.
     pub fn take(&mut self, answer: Answer, losses: u32) -> Result<(), NoMemory>
-        requires { MayCome self.old.next answer losses }
-        ensures kept { OnOk result (self.new.log ≡ self.old.log ++ entries_kept self.old.next answer losses) }
-        ensures session { OnOk result ((script : AnyScript) (number : ℕ) → IsThin script → IsSessionOf script number self.old → IsSessionOf script number self.new) }
+        requires comes { MayCome (next_at self.old.way 0) answer losses }
+        requires spelled { IsSpelled answer }
+        ensures kept { OnOk result (self.new.log ≡ self.old.log ++ entries_kept (next_at self.old.way 0) answer losses) }
+        ensures same { OnOk result (IsSame self.old self.new) }
+        ensures taken { OnOk result (HasTaken self.old (next_at self.old.way 0) answer losses self.new) }
+        ensures asking { OnOk result (IsAsking self.new) }
+        ensures exact { OnOk result (IsSessionOf self.new.script self.new.number (working self.new)) }
+        ensures fewer { OnOk result ((above : List ℕ → ℕ) (n : ℕ) → ((key : List ℕ) → above key ≤ n) → Advances above n (next_at self.old.way 0) answer → answers_left above n self.new < answers_left above n self.old) }
+        ensures one_still { OnOk result (places_of self.new.way ≡ 1) }
         ensures err { OnErr result (self.new ≡ self.old) }
     {
-        let place = self.place.after(self.alloc, self.limits.patience, &answer)?;
-        let task = place.task(self.alloc)?;
+        let Some(stand) = &self.stand else {
+            unreachable!()
+        };
+        let planner = Planner {
+            alloc: self.alloc,
+            script: self.script,
+            parts: self.parts,
+        };
+        let next = planner.after(works_of(self.script, self.number), stand, &answer)?;
         self.log.reserve(1)?;
-        let sync = sync_after(self.sync, &self.task);
-        let name = name(self.number, self.place.ordinal);
-        let done = mem::replace(&mut self.task, task);
-        let kept = entry(done, self.sync, name, answer, losses);
+        let Some(done) = mem::replace(&mut self.stand, next) else {
+            unreachable!()
+        };
+        let kept = entry(done, self.number, self.sync, answer, losses);
+        self.sync = sync_behind(self.sync, &kept);
         self.log.push_reserved(kept);
-        self.sync = sync;
-        self.place = place;
         Ok(())
     }
 
     /// Whether the next action is a Send to whose request this reply may come. It takes no memory.
     pub fn fits(&self, reply: &Reply) -> bool
-        ensures exact { result ≡ fits_next self.now.next reply.now }
-        ensures may_come { IsTrue result → (losses : ℕ) → losses ≤ 3 → MayCome self.now.next (came.Reply reply.now) losses }
+        ensures exact { result ≡ fits_next (next_at self.now.way 0) reply.now }
+        ensures may_come { IsTrue result → (losses : ℕ) → losses ≤ 3 → MayCome (next_at self.now.way 0) (came.Reply reply.now) losses }
     {
-        match &self.task {
-            Task::Send(request) => fits_ask(&request.ask, reply),
-            Task::Commit { .. } | Task::Nothing => false,
+        match self.next() {
+            Action::Send { request, .. } => fits_ask(&request.ask, reply),
+            Action::Commit { .. } | Action::Finished => false,
         }
     }
 
@@ -123,49 +148,109 @@ impl Session {
 
     /// The log, once the session isn't needed any more.
     pub fn into_log(self) -> List<LogEntry>
-        ensures { result ≡ self.log }
+        ensures log { result ≡ self.entry.log }
+        ensures whole { self.entry.way ≡ Awaiting [] → in_line self.entry.script self.entry.number result }
     {
         let Session { log, .. } = self;
         List::from_vec(log)
     }
 }
 
-fn name(session: u32, ordinal: u32) -> TxnName
-    ensures { result ≡ record { session = session; ordinal = ordinal } }
+/// How many partitions the tables have together.
+fn parts_of(tables: &[TableDef]) -> u32
+    requires { parts_of tables.now ≤ 16 }
+    ensures { result ≡ parts_of tables.now }
 {
-    TxnName { session, ordinal }
+    let mut parts = 0;
+    for at in 0..tables.len() {
+        parts += tables[at].firsts.items().len() as u32 + 1;
+    }
+    parts
 }
 
-/// The sync of the request after the task.
-fn sync_after(sync: u64, task: &Task) -> u64
-    requires { sync + 1 < 2 ^ 64 }
-    ensures { result ≡ sync_after sync task.now }
+/// The transactions of a session.
+fn works_of(script: &Script, number: u32) -> &[Work]
+    requires { Lies 1 (length script.now.sessions) number }
+    ensures { result.now ≡ works_of script.now number }
 {
-    match task {
-        Task::Send(_) => sync + 1,
-        Task::Commit { .. } | Task::Nothing => sync,
+    script.sessions.items()[number as usize - 1].items()
+}
+
+fn action(stand: &Stand, number: u32, sync: u64) -> Action<'_>
+    ensures { shown result ≡ next_at (way_in number sync stand.now.ordinal stand.now.stage) 0 }
+{
+    match &stand.stage {
+        Stage::Asks(turn) => Action::Send {
+            part: turn.part,
+            sync,
+            request: &turn.request,
+        },
+        Stage::Prepares { part, request, .. } => Action::Send {
+            part: *part,
+            sync,
+            request,
+        },
+        Stage::Stamps { floor } => Action::Commit {
+            name: TxnName {
+                session: number,
+                ordinal: stand.ordinal,
+            },
+            floor: *floor,
+        },
+        Stage::Closes { part, request, .. } => Action::Send {
+            part: *part,
+            sync,
+            request,
+        },
     }
 }
 
-/// What the log keeps of a task that was done.
-fn entry(task: Task, sync: u64, name: TxnName, answer: Answer, losses: u32) -> LogEntry
-    requires { MayCome (next_of name.session sync name.ordinal task) answer losses }
-    ensures { result ∷ [] ≡ entries_kept (next_of name.session sync name.ordinal task) answer losses }
+/// What the log keeps of an action that was done.
+fn entry(stand: Stand, number: u32, sync: u64, answer: Answer, losses: u32) -> LogEntry
+    ensures { result ∷ [] ≡ entries_kept (next_at (way_in number sync stand.ordinal stand.stage) 0) answer losses }
 {
-    match task {
-        Task::Send(request) => LogEntry::Asked {
-            part: PART,
+    let Stand { ordinal, stage, .. } = stand;
+    match stage {
+        Stage::Asks(turn) => LogEntry::Asked {
+            part: turn.part,
+            sync,
+            request: turn.request,
+            losses,
+            answer,
+        },
+        Stage::Prepares { part, request, .. } => LogEntry::Asked {
+            part,
             sync,
             request,
             losses,
             answer,
         },
-        Task::Commit { floor } => LogEntry::Drew {
-            name,
+        Stage::Stamps { floor } => LogEntry::Drew {
+            name: TxnName {
+                session: number,
+                ordinal,
+            },
             floor,
             answer,
         },
-        Task::Nothing => unreachable!(),
+        Stage::Closes { part, request, .. } => LogEntry::Asked {
+            part,
+            sync,
+            request,
+            losses,
+            answer,
+        },
+    }
+}
+
+/// The sync of the request after an entry.
+fn sync_behind(sync: u64, entry: &LogEntry) -> u64
+    requires { sync + 1 < 2 ^ 64 }
+    ensures next { result ≡ sync_behind sync (entry.now ∷ []) }
+{
+    match entry {
+        LogEntry::Asked { .. } => sync + 1,
+        LogEntry::Drew { .. } => sync,
     }
 }
 
@@ -192,5 +277,43 @@ fn fits_ask(ask: &Ask, reply: &Reply) -> bool
         Ask::LockGranule { .. } => matches!(reply, Reply::Done | Reply::Locked(_)),
         Ask::Prepare => matches!(reply, Reply::Floor(_)),
         Ask::EndCommit { .. } | Ask::EndUndo => matches!(reply, Reply::Done),
+    }
+}
+
+impl<'a> Requester for Session<'a> {
+    ghost use Rattle.session_grammar.specs.Follows.{in_line};
+    ghost use Rattle.requester_fs.specs.Lasting.{answers_left};
+
+    ghost asking = { λ s. s };
+
+    ghost single = { λ _. Unit {0} };
+
+    ghost allows = { λ s log. in_line s.script s.number log };
+
+    ghost left = { λ s above n. answers_left above n s };
+
+    fn places(&self) -> u32 {
+        match self.next() {
+            Action::Send { .. } | Action::Commit { .. } | Action::Finished => 1,
+        }
+    }
+
+    fn at(&self, _place: u32) -> Action<'_> {
+        self.next()
+    }
+
+    fn fits(&self, place: u32, reply: &Reply) -> bool {
+        place < self.places() && Session::fits(self, reply)
+    }
+
+    fn answer(&mut self, place: u32, answer: Answer, losses: u32) -> Result<(), NoMemory> {
+        if place >= self.places() {
+            unreachable!()
+        }
+        self.take(answer, losses)
+    }
+
+    fn ended(self) -> List<LogEntry> {
+        self.into_log()
     }
 }

@@ -1,18 +1,27 @@
--- A new session stands at the first place.
-use Rattle.std.proofs.Common.{◌≡◌, length, refl, ap, arith}
-use Rattle.requester_fs.specs.Leading.{StandsAt}
-use Rattle.requester_fs.proofs.Standing.{stands_first, stands_session}
+use Rattle.std.proofs.Common.{length, ap, arith, subst, ◌∙◌}
+use Rattle.sql_base.specs.Scripts.{parts_of}
+use Rattle.requester_fs.specs.Stages.{Stands}
+use Rattle.requester_fs.specs.Working.{IsWorking}
+use Rattle.session_laws.specs.Machine.{works_at}
+use Rattle.requester_fs.proofs.Asked.{is_asking}
+use Rattle.requester_fs.proofs.Keeping.{exact, first_working, one}
+use Rattle.requester_fs.proofs.Ordinals.{works_few}
 use Rattle.requester_fs.proofs.sessions.Session.new.Goals as goal
 
-alone : (c : goal.After-new) → c.args.number ≡ 1
-alone c =
-    let sessions : length c.args.script.now.sessions ≡ 1 = ap length c.requires.thin.session in
-    let numbered = c.requires.numbered in
-    omega arith
+pub first-requires-clause-ordinals : goal.first-requires-clause-ordinals
+first-requires-clause-ordinals c = omega (arith, ap length c.works_of.ensures, works_few c.args.script.now c.args.number c.requires.script c.requires.numbered)
 
-stands : (c : goal.After-new) → StandsAt c.args.script.now.limits c.args.number c.first-place.result 1 c.in_ok-task.task c.new.result.items
-stands c = stands_first c.args.script.now.limits c.args.number c.requires.thin.limits (alone c) c.first-place.result c.first-place.ensures c.in_ok-task.task c.in_ok-task.ensures c.new.result.items c.new.ensures.items
+works : (c : goal.After-new) → IsWorking c.args.script.now c.args.number c.parts_of-parts.result c.in_ok-stand.stand 1 c.new.result.items
+works c =
+    let script = c.args.script.now in
+    let led = subst (λ ws. Stands script ws (λ r. works_at r 1 ws) c.in_ok-stand.stand) c.works_of.ensures c.in_ok-stand.ensures in
+    first_working script c.args.number c.parts_of-parts.result c.in_ok-stand.stand c.new.result.items c.requires.script c.requires.numbered (c.parts_of-parts.ensures ∙ ap parts_of c.items.ensures) led c.new.ensures.items
 
-pub returns-clause-session : goal.returns-clause-session
-returns-clause-session c =
-    stands_session c.args.script.now c.requires.thin c.args.script.now.limits c.args.number c.args.number c.first-place.result 1 c.in_ok-task.task c.new.result.items (stands c) refl refl
+pub returns-clause-asking : goal.returns-clause-asking
+returns-clause-asking c = is_asking c.args.script.now c.args.number c.parts_of-parts.result 1 c.in_ok-stand.stand c.new.result.items (works c)
+
+pub returns-clause-exact : goal.returns-clause-exact
+returns-clause-exact c = exact c.args.script.now c.args.number c.parts_of-parts.result 1 c.in_ok-stand.stand c.new.result.items (works c)
+
+pub returns-clause-one : goal.returns-clause-one
+returns-clause-one c = one c.args.script.now c.args.number c.parts_of-parts.result 1 c.in_ok-stand.stand c.new.result.items (works c)
