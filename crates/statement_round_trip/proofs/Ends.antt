@@ -38,7 +38,7 @@ use Rattle.statement_round_trip.proofs.Wholes.{wholes_read_back}
 abbrev where_list : List Symbol
 where_list = symbols.Part parts.Expression ∷ symbols.Part parts.AndRest ∷ symbols.Part parts.OrRest ∷ symbols.Ended ends.Filter ∷ []
 
-sooner_alone : (first : Option Fault) → sooner first None ≡ first
+pub sooner_alone : (first : Option Fault) → sooner first None ≡ first
 sooner_alone None = refl
 sooner_alone (Some fault) = refl
 
@@ -53,7 +53,7 @@ filters_end x place d truth fits =
     ∙ ap (λ (b : Bool). ended_with x place d (Some kind.Truth) b (sooner d.first None)) fits
     ∙ ap (λ (first : Option Fault). ended_with x place d (Some kind.Truth) false first) (sooner_alone d.first)
 
-is_there : (k : base.Kind) (x : Option Kind) → option_map meant x ≡ Some k → is_some x ≡ true
+pub is_there : (k : base.Kind) (x : Option Kind) → option_map meant x ≡ Some k → is_some x ≡ true
 is_there k None h = absurd cc
 is_there k (Some y) h = refl
 

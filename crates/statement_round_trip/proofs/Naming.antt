@@ -12,11 +12,11 @@ use Rattle.statement_draft.specs.Names.{is_long, column_from}
 use Rattle.statement_round_trip.specs.Rereading.{ColumnsNamed}
 use Rattle.statement_round_trip.proofs.Operands.{both_true}
 
-either_false : (a b : Bool) → (a || b) ≡ false → (a ≡ false) × (b ≡ false)
+pub either_false : (a b : Bool) → (a || b) ≡ false → (a ≡ false) × (b ≡ false)
 either_false true b h = absurd cc
 either_false false b h = (refl, h)
 
-not_true : (a : Bool) → not a ≡ true → a ≡ false
+pub not_true : (a : Bool) → not a ≡ true → a ≡ false
 not_true true h = absurd cc
 not_true false h = refl
 
@@ -68,7 +68,7 @@ all_short : (xs : List Column) → AllByRecursion (λ y. IsShortName y.name) xs 
 all_short [] h = tt
 all_short (x ∷ xs) h = (h.0.short, all_short xs h.1)
 
-not_long : (name : List ℕ) → length name ≤ 30 → is_long name ≡ false
+pub not_long : (name : List ℕ) → length name ≤ 30 → is_long name ≡ false
 not_long name h = grind (arith, nat_tests)
 
 pub columns_named : ColumnsNamed

@@ -52,14 +52,14 @@ use Rattle.statement_round_trip.proofs.Steps.{read_end, read_skip, read_part, re
 
 -- ---- tokens of words
 
-record Halves (us vs : List Word) (ts : List Token) : Type 0 where
+pub record Halves (us vs : List Word) (ts : List Token) : Type 0 where
   pub front : List Token
   pub rest : List Token
   pub whole : ts ≡ front ++ rest
   pub front_words : words_in front ≡ us
   pub rest_words : words_in rest ≡ vs
 
-halves : (us vs : List Word) (ts : List Token) → words_in ts ≡ us ++ vs → Halves us vs ts
+pub halves : (us vs : List Word) (ts : List Token) → words_in ts ≡ us ++ vs → Halves us vs ts
 halves [] vs ts h = record { front = []; rest = ts; whole = refl; front_words = refl; rest_words = h }
 halves (u ∷ us) vs [] h = absurd cc
 halves (u ∷ us) vs (t ∷ ts) h =
@@ -79,7 +79,7 @@ pub one : (u : Word) (vs : List Word) (ts : List Token) → words_in ts ≡ u �
 one u vs [] h = absurd cc
 one u vs (t ∷ ts) h = record { token = t; rest = ts; whole = refl; is = cc; words = cc }
 
-none : (ts : List Token) → words_in ts ≡ [] → ts ≡ []
+pub none : (ts : List Token) → words_in ts ≡ [] → ts ≡ []
 none [] h = refl
 none (t ∷ ts) h = absurd cc
 

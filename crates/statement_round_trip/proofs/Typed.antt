@@ -24,13 +24,13 @@ use Rattle.statement_round_trip.proofs.Operands.{Cases, expr_induction}
 abbrev Agree : Option base.Kind → Option Kind → Type 0
 Agree a x = (k : base.Kind) → a ≡ Some k → option_map meant x ≡ Some k
 
-as_number : (x : Option Kind) → option_map meant x ≡ Some base.OfNumber → x ≡ Some kind.Number
+pub as_number : (x : Option Kind) → option_map meant x ≡ Some base.OfNumber → x ≡ Some kind.Number
 as_number None h = absurd cc
 as_number (Some kind.Number) h = refl
 as_number (Some (kind.Text n)) h = absurd cc
 as_number (Some kind.Truth) h = absurd cc
 
-as_text : (x : Option Kind) (n : ℕ) → option_map meant x ≡ Some (base.OfText n) → x ≡ Some (kind.Text n)
+pub as_text : (x : Option Kind) (n : ℕ) → option_map meant x ≡ Some (base.OfText n) → x ≡ Some (kind.Text n)
 as_text None n h = absurd cc
 as_text (Some kind.Number) n h = absurd cc
 as_text (Some (kind.Text m)) n h = let same : m ≡ n = cc in ap (λ (k : ℕ). Some (kind.Text k)) same
