@@ -1,3 +1,4 @@
 pub mod Known
 pub mod Endings
-pub mod ThinRuns
+pub mod Choices
+pub mod Headlines

@@ -1,26 +1,108 @@
 //! What the words of a command line ask for.
-ghost use Rattle.std.specs.Prelude.{◌↔◌, IsOk};
-ghost use Rattle.nonstop_sql.specs.Commands.{IsSteps};
+ghost use Rattle.std.specs.Prelude.{◌≡◌, ◌≢◌, ℕ, List, [], map, string_bytes, nat_eq, get_or, Err, IfOk, IfSome, None};
+ghost use Rattle.nonstop_sql.specs.Commands.{AreChoices, IsChoice, IsCommand, IsNoCommand};
+ghost use Rattle.nonstop_sql.specs.declared.commands.Command.TheVariants as asked;
+ghost use Rattle.nonstop_sql.specs.declared.commands.WordsFault.TheVariants.{NoMemory, Refused};
+
+use sql_base::{List, NoMemory};
+use std::alloc::Global;
+
+/// The most choices that a command line may have.
+const MOST_CHOICES: usize = 10_000;
 
 /// What the words of a command line ask for.
-#[derive(Clone, Copy, Debug, PartialEq, Eq)]
+#[derive(Debug, Drop)]
 pub enum Command {
-    /// To run the script step by step.
-    Steps,
+    /// To print the script as it was read.
+    Check,
+    /// To print what one thread answers that runs the sessions in number order.
+    Oracle,
+    /// To run the script step by step: each action is the one that a choice picks among those that are enabled.
+    Steps {
+        choices: List<u32>,
+    },
 }
 
 /// Why words are no command line.
 #[derive(Clone, Copy, Debug, PartialEq, Eq)]
 pub enum WordsFault {
     Refused,
+    NoMemory,
+}
+
+impl From<NoMemory> for WordsFault {
+    ghost from_gives = { λ _ fault. fault ≡ NoMemory };
+
+    fn from(_error: NoMemory) -> WordsFault {
+        WordsFault::NoMemory
+    }
 }
 
 /// The command of a line of words. The first word is the program's name, and isn't judged.
-pub fn command_of(words: &[String]) -> Result<Command, WordsFault>
-    ensures { IsOk result ↔ IsSteps words.now }
+pub fn command_of(alloc: Global, words: &[String]) -> Result<Command, WordsFault>
+    ensures asked { IfOk result (IsCommand words.now) }
+    ensures refused { result ≡ Err Refused → IsNoCommand words.now }
 {
     match words {
-        [_program, command] if command.as_str() == "steps" => Ok(Command::Steps),
+        [_program, name, rest @ ..] => match name.as_str() {
+            "check" => alone(Command::Check, rest),
+            "oracle" => alone(Command::Oracle, rest),
+            "steps" => steps(alloc, rest),
+            _ => Err(WordsFault::Refused),
+        },
         _ => Err(WordsFault::Refused),
+    }
+}
+
+/// A command that no words follow.
+fn alone(command: Command, words: &[String]) -> Result<Command, WordsFault>
+    ensures asked { IfOk result (λ r. (r ≡ command) × (words.now ≡ [])) }
+    ensures refused { result ≡ Err Refused → words.now ≢ [] }
+{
+    if words.is_empty() {
+        Ok(command)
+    } else {
+        Err(WordsFault::Refused)
+    }
+}
+
+fn steps(alloc: Global, words: &[String]) -> Result<Command, WordsFault>
+    ensures asked { IfOk result (λ command. (choices : List ℕ) × (command ≡ asked.Steps choices) × AreChoices (map string_bytes words.now) choices) }
+    ensures refused { result ≡ Err Refused → (choices : List ℕ) → AreChoices (map string_bytes words.now) choices → ⊥ }
+{
+    if words.len() > MOST_CHOICES {
+        return Err(WordsFault::Refused);
+    }
+    let mut choices = List::new(alloc);
+    for word in words {
+        match choice_of(word) {
+            Some(choice) => choices.push(choice)?,
+            None => return Err(WordsFault::Refused),
+        }
+    }
+    Ok(Command::Steps { choices })
+}
+
+/// The number of 32 bits that a word spells in digits alone.
+fn choice_of(word: &String) -> Option<u32>
+    ensures found { IfSome result (IsChoice (string_bytes word.now)) }
+    ensures none { result ≡ None → (choice : ℕ) → IsChoice (string_bytes word.now) choice → ⊥ }
+{
+    if has_sign(word.as_bytes()) {
+        return None;
+    }
+    match word.as_str().parse::<u32>() {
+        Ok(choice) => Some(choice),
+        Err(_error) => None,
+    }
+}
+
+/// Whether the first byte is a plus sign, which `parse` reads and no choice has.
+fn has_sign(word: &[u8]) -> bool
+    ensures { result ≡ nat_eq (get_or word.now 0 0) 43 }
+{
+    match word.first() {
+        Some(byte) => *byte == b'+',
+        None => false,
     }
 }

@@ -1,21 +1,24 @@
 //! The program `nsq`: reads a script of SQL, runs it, and writes what came of it.
 #![tactic(auto)]
 
-ghost use Rattle.std.specs.Prelude.{◌≡◌, ◌≤◌, ◌↔◌, IfOk, IfSome};
+ghost use Rattle.std.specs.Prelude.{◌≡◌, ◌≤◌, ◌⊎◌, ℕ, List, IfOk, IfSome};
 ghost use Rattle.run_record.specs.Headline.{Headline};
 ghost use Rattle.sql_base.specs.declared.scripts.Script.{Script};
-ghost use Rattle.nonstop_sql.specs.Commands.{IsSteps};
+ghost use Rattle.nonstop_sql.specs.Commands.{IsCommand, IsNoCommand};
+ghost use Rattle.nonstop_sql.specs.declared.commands.Command.TheVariants.{Steps};
 
 mod checks;
 mod commands;
 mod input;
+mod lines;
 mod outcome;
 mod output;
 mod top;
 
 pub use commands::{Command, WordsFault, command_of};
 pub use input::{ReadError, read_to_limit};
-pub use outcome::{Outcome, Refusal};
+pub use lines::line_of;
+pub use outcome::Outcome;
 pub use output::write_all;
 use outside::{Cycle, Passage, QuietGate, StdSink, StdSource, Wire};
 use sql_base::NoMemory;
@@ -36,9 +39,10 @@ fn words_of(rt: &HostRuntime) -> io::Result<Vec<String>> {
 ///
 /// What is read and written isn't known here, but with status 0 the record is one of a run of some script.
 fn outcome_of(rt: &HostRuntime, words: &[String]) -> Result<Outcome, NoMemory>
-    ensures refused { IfOk result (λ outcome. (outcome.status ≡ 2) ↔ (IsSteps words.now → ⊥)) }
+    ensures refused { IfOk result (λ outcome. outcome.status ≡ 2 → IsNoCommand words.now) }
+    ensures refuses { IsNoCommand words.now → IfOk result (λ outcome. (outcome.status ≡ 2) ⊎ (outcome.status ≡ 5)) }
     ensures ended { IfOk result (λ outcome. outcome.status ≤ 5) }
-    ensures ran { IsSteps words.now → IfOk result (λ outcome. outcome.status ≡ 0 → (script : Script) × IfSome outcome.kept (Headline script)) }
+    ensures ran { (choices : List ℕ) → IsCommand words.now (Steps choices) → IfOk result (λ outcome. outcome.status ≡ 0 → (script : Script) × IfSome outcome.kept (Headline script)) }
 {
     let alloc = rt.alloc();
     let mut wires: Vec<Box<dyn Wire + Send>> = Vec::new(alloc);
@@ -60,26 +64,18 @@ fn outcome_of(rt: &HostRuntime, words: &[String]) -> Result<Outcome, NoMemory>
     ))
 }
 
-/// One line on standard error that says how it ended.
+/// The line on standard error that says how it ended; none where memory is short for it.
 fn tell(rt: &HostRuntime, outcome: &Outcome) -> io::Result<()> {
-    match (outcome.status, outcome.fault) {
-        (0, _) => eprintln!(rt; "nsq: done"),
-        (1, Some(Refusal::Script(fault))) => eprintln!(rt;
-            "nsq: line {} column {}: {:?}",
-            fault.line, fault.column, fault.reason
-        ),
-        (1, Some(Refusal::NotYet)) => eprintln!(rt; "nsq: not run yet"),
-        (2, _) => eprintln!(rt; "nsq: bad command line"),
-        (3, _) => eprintln!(rt; "nsq: read failed"),
-        (4, _) => eprintln!(rt; "nsq: write failed"),
-        _ => eprintln!(rt; "nsq: out of memory"),
+    match line_of(rt.alloc(), outcome) {
+        Ok(line) => eprintln!(rt; "{}", line.as_str()),
+        Err(_) => Ok(()),
     }
 }
 
 fn main(rt: HostRuntime) -> ExitCode {
     let outcome = match words_of(&rt) {
         Ok(words) => outcome_of(&rt, words.as_slice()).unwrap_or(Outcome::bare(5)),
-        Err(_) => Outcome::bare(2),
+        Err(_) => Outcome::bare(5),
     };
     let _told = tell(&rt, &outcome);
     ExitCode::from(outcome.status)

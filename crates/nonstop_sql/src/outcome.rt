@@ -4,21 +4,12 @@ ghost use Rattle.std.specs.Prelude.{◌≡◌};
 use run_record::RunRecord;
 use statement_reader::ScriptFault;
 
-/// Why the bytes that were read were not run.
-#[derive(Clone, Copy, Debug, PartialEq, Eq)]
-pub enum Refusal {
-    /// They are no script.
-    Script(ScriptFault),
-    /// They are a script of another form than the one that is run so far.
-    NotYet,
-}
-
 /// How a command ended.
 ///
 /// | Status | Comes |
 /// |---|---|
 /// | 0 | it is done, and the whole output is written |
-/// | 1 | the bytes that were read are no script that is run; `fault` says why |
+/// | 1 | the bytes that were read are no script; `fault` says why |
 /// | 2 | the words are no command line, or there are fewer than 8 wires |
 /// | 3 | a read failed |
 /// | 4 | a write failed, after a front of the output |
@@ -26,10 +17,10 @@ pub enum Refusal {
 #[derive(Debug, Drop)]
 pub struct Outcome {
     pub status: u8,
-    /// The record of the run, with status 0.
+    /// The record of the run, with status 0 of a command that runs the script.
     pub kept: Option<RunRecord>,
     /// Why the script was refused, with status 1.
-    pub fault: Option<Refusal>,
+    pub fault: Option<ScriptFault>,
 }
 
 impl Outcome {
@@ -45,7 +36,7 @@ impl Outcome {
     }
 
     /// The outcome of bytes that are refused.
-    pub fn refused(fault: Refusal) -> Outcome
+    pub fn refused(fault: ScriptFault) -> Outcome
         ensures { result ≡ record { status = 1; kept = None; fault = Some fault } }
     {
         Outcome {

@@ -1,195 +1,178 @@
-//! Runs of the scan over a table of two columns, with QUANTUM 2.
+//! Whole runs: the words, the script and the wires, and what must come of them.
 use super::*;
-use dp_messages::Reply;
-use outside::{MemorySink, MemorySource};
-use run_record::RunRecord;
+use outside::{Listed, MemorySink, MemorySource};
 use std::alloc::Global;
 use std::test::Fail;
 
 /// The room of a sink that takes all that these runs write.
-const AMPLE: usize = 1_000;
+const AMPLE: usize = 2_000;
 
-const LIMITS_AND_TABLE: &[u8] = b"QUANTUM 2;\nTABLE t (k INT, v INT, PRIMARY KEY (k));\n";
-
-const SESSION: &[u8] = b"SESSION;\nSELECT k, v FROM t FOR REPEATABLE ACCESS;\nCOMMIT WORK;\n";
-
-/// The script over the rows of a LOAD or none.
-fn script_of(alloc: Global, load: &[u8]) -> Result<Vec<u8>, NoMemory> {
-    let mut script = LIMITS_AND_TABLE.to_vec(alloc)?;
-    script.extend_from_slice(load)?;
-    script.extend_from_slice(SESSION)?;
-    Ok(script)
+/// How the wires of a run answer.
+#[derive(Clone, Copy)]
+enum Paths {
+    /// All carry everything.
+    Carry,
+    /// They go round these answers.
+    Round(Passage, &'static [Passage]),
+    /// They tell these answers once, and carry everything from then on.
+    Once(&'static [Passage]),
 }
 
-/// The words of a command line that runs a script.
-fn steps_words(alloc: Global) -> Result<Vec<String>, NoMemory> {
-    let mut words = Vec::new(alloc);
-    words.push(String::from_str(alloc, "nsq")?)?;
-    words.push(String::from_str(alloc, "steps")?)?;
-    Ok(words)
+/// A script that `steps` runs without choices over wires that carry everything, and its text.
+#[derive(Drop)]
+struct Run {
+    script: &'static [&'static str],
+    taken: &'static [&'static str],
 }
 
-/// So many wires that carry everything, for a run of the words from the source to the sink.
-fn outcome_over(
-    alloc: Global,
-    words: &[String],
-    source: &mut MemorySource,
-    sink: &mut MemorySink,
-    wire_count: usize,
-) -> Result<Outcome, NoMemory> {
-    let mut wires: Vec<Box<dyn Wire + Send>> = Vec::new(alloc);
-    for _ in 0..wire_count {
-        let carry = vec![in alloc; Passage::Carry]?;
-        wires.push(Box::new(alloc, Cycle::new(carry))?)?;
+/// Any run, and what must come of it.
+#[derive(Drop)]
+struct Case {
+    words: &'static [&'static str],
+    script: &'static [&'static str],
+    paths: Paths,
+    status: u8,
+    taken: &'static [&'static str],
+}
+
+/// The table of two columns with five rows, read two rows at a time.
+const TABLE: &str = "TABLE t (k INT, v INT, PRIMARY KEY (k));";
+const LOAD: &str = "LOAD t (1,10),(2,20),(3,30),(4,40),(5,50);";
+const SCAN: &str = "SELECT k, v FROM t FOR REPEATABLE ACCESS;";
+const ADD: &str = "UPDATE t SET v = v + 1 FOR REPEATABLE ACCESS;";
+const COMMIT: &str = "COMMIT WORK;";
+
+/// Two partitions of one row each, and sessions that change both rows in opposite order.
+const HALVES: &str = "TABLE t (k INT, v INT, PRIMARY KEY (k)) FIRST KEY (1000); LOAD t (1,10),(1000,20);";
+const LOW: &str = "UPDATE t SET v = v + 1 WHERE k = 1 FOR REPEATABLE ACCESS;";
+const HIGH: &str = "UPDATE t SET v = v + 1 WHERE k = 1000 FOR REPEATABLE ACCESS;";
+
+/// The accounts of two partitions.
+const ACCOUNTS: &str = "TABLE acct (no INT, own CHAR(6), bal INT, PRIMARY KEY (no), CHECK (bal >= 0)) FIRST KEY (1000); LOAD acct (10, 'SMITH', 500), (1010, 'JONES', 70);";
+const TAKE: &str = "UPDATE acct SET bal = bal - 100 WHERE no = 10 FOR REPEATABLE ACCESS;";
+const GIVE: &str = "UPDATE acct SET bal = bal + 100 WHERE no = 1010 FOR REPEATABLE ACCESS;";
+const RICH: &str = "SELECT * FROM acct WHERE bal > 100 FOR STABLE ACCESS;";
+const TRANSFERRED: &[&str] = &[
+    "TXN 1 1 COMMITTED 1",
+    "COUNT 1 1 1 1",
+    "COUNT 1 1 2 1",
+    "TXN 1 2 COMMITTED 2",
+    "ROW 1 2 1 10 'SMITH ' 400",
+    "ROW 1 2 1 1010 'JONES ' 170",
+    "TABLE acct",
+    "REC 10 'SMITH ' 400",
+    "REC 1010 'JONES ' 170",
+];
+
+const RUNS: [Run; 13] = [
+    Run { script: &["QUANTUM 2;", TABLE, LOAD, "SESSION;", SCAN, COMMIT], taken: &["TXN 1 1 COMMITTED 1", "ROW 1 1 1 1 10", "ROW 1 1 1 2 20", "ROW 1 1 1 3 30", "ROW 1 1 1 4 40", "ROW 1 1 1 5 50", "TABLE t", "REC 1 10", "REC 2 20", "REC 3 30", "REC 4 40", "REC 5 50"] },
+    Run { script: &["QUANTUM 2;", TABLE, "SESSION;", SCAN, COMMIT], taken: &["TXN 1 1 COMMITTED 1", "TABLE t"] },
+    Run { script: &[TABLE, LOAD, "SESSION;", "UPDATE t SET v = v + 1 WHERE k >= 4 FOR REPEATABLE ACCESS;", "ROLLBACK WORK;"], taken: &["TXN 1 1 ROLLEDBACK", "COUNT 1 1 1 2", "TABLE t", "REC 1 10", "REC 2 20", "REC 3 30", "REC 4 40", "REC 5 50"] },
+    Run { script: &[TABLE, LOAD, "SESSION;", "INSERT INTO t VALUES (3,1);", COMMIT], taken: &["TXN 1 1 ABORTED DUPLICATEKEY 8000000000000003", "TABLE t", "REC 1 10", "REC 2 20", "REC 3 30", "REC 4 40", "REC 5 50"] },
+    Run { script: &[TABLE, LOAD, "SESSION;", "SELECT k FROM t WHERE 10 / (v - 20) > 1 FOR STABLE ACCESS;", COMMIT], taken: &["TXN 1 1 ABORTED ZERODIVIDE 8000000000000002", "TABLE t", "REC 1 10", "REC 2 20", "REC 3 30", "REC 4 40", "REC 5 50"] },
+    Run { script: &[TABLE, LOAD, "SESSION;", "SELECT k FROM t WHERE k > 9 AND k < 3 FOR REPEATABLE ACCESS;", COMMIT], taken: &["TXN 1 1 COMMITTED 1", "TABLE t", "REC 1 10", "REC 2 20", "REC 3 30", "REC 4 40", "REC 5 50"] },
+    Run { script: &["TABLE t (k INT, v INT, PRIMARY KEY (k), CHECK (v >= 0));", LOAD, "SESSION;", "UPDATE t SET v = v - 30 FOR REPEATABLE ACCESS;", COMMIT], taken: &["TXN 1 1 ABORTED CHECKFAILED 8000000000000001", "TABLE t", "REC 1 10", "REC 2 20", "REC 3 30", "REC 4 40", "REC 5 50"] },
+    Run { script: &["TABLE t (k INT, PRIMARY KEY (k));", "LOAD t (-9223372036854775808),(9223372036854775807);", "SESSION;", "SELECT k FROM t WHERE k + 1 > 0 FOR BROWSE ACCESS;", COMMIT], taken: &["TXN 1 1 ABORTED OVERFLOW ffffffffffffffff", "TABLE t", "REC -9223372036854775808", "REC 9223372036854775807"] },
+    Run { script: &["TABLE t (c CHAR(4), PRIMARY KEY (c));", "LOAD t ('A''B');", "SESSION;", "SELECT c FROM t WHERE c = 'A''B' FOR STABLE ACCESS;", COMMIT], taken: &["TXN 1 1 COMMITTED 1", "ROW 1 1 1 'A''B '", "TABLE t", "REC 'A''B '"] },
+    Run { script: &[ACCOUNTS, "SESSION;", TAKE, GIVE, COMMIT, RICH, COMMIT], taken: TRANSFERRED },
+    Run { script: &[TABLE, LOAD, "SESSION;", "INSERT INTO t VALUES (6,60);", COMMIT, "DELETE FROM t FOR REPEATABLE ACCESS;", "ROLLBACK WORK;", SCAN, COMMIT], taken: &["TXN 1 1 COMMITTED 1", "TXN 1 2 ROLLEDBACK", "COUNT 1 2 1 6", "TXN 1 3 COMMITTED 2", "ROW 1 3 1 1 10", "ROW 1 3 1 2 20", "ROW 1 3 1 3 30", "ROW 1 3 1 4 40", "ROW 1 3 1 5 50", "ROW 1 3 1 6 60", "TABLE t", "REC 1 10", "REC 2 20", "REC 3 30", "REC 4 40", "REC 5 50", "REC 6 60"] },
+    Run { script: &[TABLE, LOAD, "SESSION;", "SELECT k FROM t WHERE k = 2 AND 10 / (v - 20) > 1 FOR REPEATABLE ACCESS;", COMMIT], taken: &["TXN 1 1 ABORTED ZERODIVIDE 8000000000000002", "TABLE t", "REC 1 10", "REC 2 20", "REC 3 30", "REC 4 40", "REC 5 50"] },
+    Run { script: &[TABLE, LOAD, "SESSION;", "SELECT k FROM t WHERE k = 1 AND 10 / (v - 20) > 1 FOR REPEATABLE ACCESS;", COMMIT], taken: &["TXN 1 1 COMMITTED 1", "TABLE t", "REC 1 10", "REC 2 20", "REC 3 30", "REC 4 40", "REC 5 50"] },
+];
+
+const CASES: [Case; 13] = [
+    Case { words: &["nsq", "oracle"], script: &[ACCOUNTS, "SESSION;", TAKE, GIVE, COMMIT, RICH, COMMIT], paths: Paths::Carry, status: 0, taken: TRANSFERRED },
+    Case { words: &["nsq", "check"], script: &["QUANTUM 2;", TABLE, LOAD, "SESSION;", SCAN, COMMIT], paths: Paths::Carry, status: 0, taken: &["QUANTUM 2 ;", "BUFFER 4096 ;", "PATIENCE 8 ;", "SERVERS 2 ;", "TABLE t ( k INT , v INT , PRIMARY KEY ( k ) ) ;", "LOAD t ( 1 , 10 ) , ( 2 , 20 ) , ( 3 , 30 ) , ( 4 , 40 ) , ( 5 , 50 ) ;", "SESSION ;", "SELECT k , v FROM t FOR REPEATABLE ACCESS ;", "COMMIT WORK ;"] },
+    Case { words: &["nsq", "steps", "0", "0", "0", "1"], script: &["PATIENCE 1;", HALVES, "SESSION;", LOW, HIGH, COMMIT, "SESSION;", HIGH, LOW, COMMIT], paths: Paths::Carry, status: 0, taken: &["TXN 1 1 COMMITTED 1", "COUNT 1 1 1 1", "COUNT 1 1 2 1", "TXN 2 1 ABORTED LOCKED", "TABLE t", "REC 1 11", "REC 1000 21"] },
+    Case { words: &["nsq", "steps", "0", "0", "0", "1"], script: &["PATIENCE 1;", "RESTART 2;", HALVES, "SESSION;", LOW, HIGH, COMMIT, "SESSION;", HIGH, LOW, COMMIT], paths: Paths::Carry, status: 0, taken: &["TXN 1 1 COMMITTED 1", "COUNT 1 1 1 1", "COUNT 1 1 2 1", "TXN 2 1 ABORTED LOCKED", "TXN 2 2 ABORTED LOCKED", "TXN 2 3 COMMITTED 2", "COUNT 2 3 1 1", "COUNT 2 3 2 1", "TABLE t", "REC 1 12", "REC 1000 22"] },
+    Case { words: &["nsq", "steps", "0", "0", "0", "1"], script: &["PATIENCE 1;", "RESTART 1;", HALVES, "SESSION;", LOW, HIGH, COMMIT, "SESSION;", HIGH, LOW, COMMIT], paths: Paths::Carry, status: 0, taken: &["TXN 1 1 COMMITTED 1", "COUNT 1 1 1 1", "COUNT 1 1 2 1", "TXN 2 1 ABORTED LOCKED", "TXN 2 2 ABORTED LOCKED", "TABLE t", "REC 1 11", "REC 1000 21"] },
+    Case { words: &["nsq", "steps"], script: &["QUANTUM 2;", TABLE, LOAD, "SESSION;", ADD, COMMIT], paths: Paths::Round(Passage::Repeat, &[]), status: 0, taken: &["TXN 1 1 COMMITTED 1", "COUNT 1 1 1 5", "TABLE t", "REC 1 11", "REC 2 21", "REC 3 31", "REC 4 41", "REC 5 51"] },
+    Case { words: &["nsq", "steps"], script: &["QUANTUM 2;", TABLE, LOAD, "SESSION;", ADD, COMMIT], paths: Paths::Round(Passage::LoseReply, &[Passage::Carry]), status: 0, taken: &["TXN 1 1 COMMITTED 1", "COUNT 1 1 1 5", "TABLE t", "REC 1 11", "REC 2 21", "REC 3 31", "REC 4 41", "REC 5 51"] },
+    Case { words: &["nsq", "steps"], script: &["QUANTUM 2;", TABLE, LOAD, "SESSION;", ADD, COMMIT], paths: Paths::Round(Passage::LoseRequest, &[]), status: 0, taken: &["TXN 1 1 ABORTED PATHFAILED", "TABLE t", "REC 1 10", "REC 2 20", "REC 3 30", "REC 4 40", "REC 5 50"] },
+    Case { words: &["nsq", "steps"], script: &["QUANTUM 2;", TABLE, LOAD, "SESSION;", ADD, COMMIT], paths: Paths::Round(Passage::LoseReply, &[]), status: 0, taken: &["TXN 1 1 ABORTED PATHFAILED", "TABLE t", "REC 1 10", "REC 2 20", "REC 3 30", "REC 4 40", "REC 5 50"] },
+    Case { words: &["nsq", "steps"], script: &["QUANTUM 2;", TABLE, LOAD, "SESSION;", ADD, COMMIT], paths: Paths::Once(&[Passage::LoseRequest, Passage::LoseReply]), status: 0, taken: &["TXN 1 1 COMMITTED 1", "COUNT 1 1 1 5", "TABLE t", "REC 1 11", "REC 2 21", "REC 3 31", "REC 4 41", "REC 5 51"] },
+    Case { words: &["nsq", "steps"], script: &[], paths: Paths::Carry, status: 1, taken: &[] },
+    Case { words: &["nsq"], script: &["QUANTUM 2;", TABLE, LOAD, "SESSION;", SCAN, COMMIT], paths: Paths::Carry, status: 2, taken: &[] },
+    Case { words: &["nsq", "steps", "4294967296"], script: &["QUANTUM 2;", TABLE, LOAD, "SESSION;", SCAN, COMMIT], paths: Paths::Carry, status: 2, taken: &[] },
+];
+
+
+/// Lines, each with its end.
+fn joined(alloc: Global, lines: &[&str]) -> Result<Vec<u8>, NoMemory> {
+    let mut bytes = Vec::new(alloc);
+    for line in lines {
+        bytes.extend_from_slice(line.as_bytes())?;
+        bytes.push(b'\n')?;
     }
+    Ok(bytes)
+}
+
+fn words_of(alloc: Global, words: &[&str]) -> Result<Vec<String>, NoMemory> {
+    let mut owned = Vec::new(alloc);
+    for word in words {
+        owned.push(String::from_str(alloc, word)?)?;
+    }
+    Ok(owned)
+}
+
+fn wires_of(alloc: Global, paths: Paths) -> Result<Vec<Box<dyn Wire + Send>>, NoMemory> {
+    let mut wires: Vec<Box<dyn Wire + Send>> = Vec::new(alloc);
+    for _ in 0..WIRES {
+        match paths {
+            Paths::Carry => wires.push(Box::new(alloc, Listed::new(Vec::new(alloc)))?)?,
+            Paths::Round(first, rest) => {
+                let mut answers = vec![in alloc; first]?;
+                answers.extend_from_slice(rest)?;
+                wires.push(Box::new(alloc, Cycle::new(answers))?)?;
+            }
+            Paths::Once(list) => wires.push(Box::new(alloc, Listed::new(list.to_vec(alloc)?))?)?,
+        }
+    }
+    Ok(wires)
+}
+
+/// The status of a run, and what its sink took.
+fn ran(alloc: Global, case: &Case) -> Result<(u8, Vec<u8>), Fail> {
+    let words = words_of(alloc, case.words)?;
+    let wires = wires_of(alloc, case.paths)?;
+    let mut source = MemorySource::new(joined(alloc, case.script)?, Vec::new(alloc));
+    let mut sink = MemorySink::new(alloc, AMPLE, Vec::new(alloc))?;
     let mut collectors = Vec::new(alloc);
-    Ok(run(
+    let outcome = run(
         alloc,
-        words,
-        source,
-        sink,
+        words.as_slice(),
+        &mut source,
+        &mut sink,
         &QuietGate,
         wires,
         &mut collectors,
-    ))
+    );
+    Ok((outcome.status, sink.taken().to_vec(alloc)?))
 }
 
-/// What a run did: its status, a letter for each reply of the first partition, and the bytes that the sink took.
-#[derive(Drop)]
-struct Done {
-    status: u8,
-    replies: Vec<u8>,
-    taken: Vec<u8>,
-}
-
-/// What was done, told from how a run ended and from its sink.
-fn done_of(alloc: Global, outcome: &Outcome, sink: &MemorySink) -> Result<Done, Fail> {
-    let mut done = Done {
-        status: outcome.status,
-        replies: Vec::new(alloc),
-        taken: sink.taken().to_vec(alloc)?,
-    };
-    if let Some(kept) = &outcome.kept {
-        done.replies = replies_of(alloc, kept)?;
+#[test]
+fn scripts_run_as_they_should(rt: HostRuntime) -> Result<(), Fail> {
+    for run in &RUNS {
+        let case = Case {
+            words: &["nsq", "steps"],
+            script: run.script,
+            paths: Paths::Carry,
+            status: 0,
+            taken: run.taken,
+        };
+        let (status, taken) = ran(rt.alloc(), &case)?;
+        assert_eq!(rt; status, case.status);
+        assert_eq!(rt; taken.as_slice(), joined(rt.alloc(), case.taken)?.as_slice());
     }
-    Ok(done)
+    Ok(())
 }
-
-/// Runs a script over so many wires, with a source whose calls of these numbers fail and a sink of this room.
-fn run_over(
-    alloc: Global,
-    script: Vec<u8>,
-    fails: Vec<u64>,
-    room: usize,
-    wire_count: usize,
-) -> Result<Done, Fail> {
-    let words = steps_words(alloc)?;
-    let mut source = MemorySource::new(script, fails);
-    let mut sink = MemorySink::new(alloc, room, Vec::new(alloc))?;
-    let outcome = outcome_over(alloc, words.as_slice(), &mut source, &mut sink, wire_count)?;
-    done_of(alloc, &outcome, &sink)
-}
-
-/// The first letter of a reply's name.
-fn letter_of(reply: &Reply) -> u8 {
-    match reply {
-        Reply::Redrive { .. } => b'R',
-        Reply::Ended { .. } => b'E',
-        Reply::Floor(_) => b'F',
-        Reply::Done => b'D',
-        _ => b'?',
-    }
-}
-
-fn replies_of(alloc: Global, kept: &RunRecord) -> Result<Vec<u8>, NoMemory> {
-    let mut letters = Vec::new(alloc);
-    if let Some(history) = kept.histories.items().first() {
-        for entry in history.items() {
-            letters.push(letter_of(&entry.reply))?;
-        }
-    }
-    Ok(letters)
-}
-
-/// A run, and what must come of it.
-struct Case {
-    load: &'static [u8],
-    fails: &'static [u64],
-    room: usize,
-    wire_count: usize,
-    status: u8,
-    replies: &'static [u8],
-    taken: &'static [u8],
-}
-
-/// The scan of five, of four and of no rows; a read that fails; a sink that is full; seven wires.
-const CASES: [Case; 6] = [
-    Case {
-        load: b"LOAD t (1,10),(2,20),(3,30),(4,40),(5,50);\n",
-        fails: &[],
-        room: AMPLE,
-        wire_count: 8,
-        status: 0,
-        replies: b"RREFD",
-        taken: b"TXN 1 1 COMMITTED 1\nROW 1 1 1 1 10\nROW 1 1 1 2 20\nROW 1 1 1 3 30\nROW 1 1 1 4 40\nROW 1 1 1 5 50\nTABLE t\nREC 1 10\nREC 2 20\nREC 3 30\nREC 4 40\nREC 5 50\n",
-    },
-    Case {
-        load: b"LOAD t (1,10),(2,20),(3,30),(4,40);\n",
-        fails: &[],
-        room: 5,
-        wire_count: 9,
-        status: 4,
-        replies: b"",
-        taken: b"TXN 1",
-    },
-    Case {
-        load: b"",
-        fails: &[],
-        room: AMPLE,
-        wire_count: 8,
-        status: 0,
-        replies: b"EFD",
-        taken: b"TXN 1 1 COMMITTED 1\nTABLE t\n",
-    },
-    Case {
-        load: b"",
-        fails: &[1],
-        room: AMPLE,
-        wire_count: 8,
-        status: 3,
-        replies: b"",
-        taken: b"",
-    },
-    Case {
-        load: b"LOAD t (2,10),(1,20);\n",
-        fails: &[],
-        room: AMPLE,
-        wire_count: 8,
-        status: 1,
-        replies: b"",
-        taken: b"",
-    },
-    Case {
-        load: b"",
-        fails: &[],
-        room: AMPLE,
-        wire_count: 7,
-        status: 2,
-        replies: b"",
-        taken: b"",
-    },
-];
 
 #[test]
 fn runs_end_as_they_should(rt: HostRuntime) -> Result<(), Fail> {
-    let alloc = rt.alloc();
     for case in &CASES {
-        let script = script_of(alloc, case.load)?;
-        let fails = case.fails.to_vec(alloc)?;
-        let done = run_over(alloc, script, fails, case.room, case.wire_count)?;
-        assert_eq!(rt; done.status, case.status);
-        assert_eq!(rt; done.replies.as_slice(), case.replies);
-        assert_eq!(rt; done.taken.as_slice(), case.taken);
+        let (status, taken) = ran(rt.alloc(), case)?;
+        assert_eq!(rt; status, case.status);
+        assert_eq!(rt; taken.as_slice(), joined(rt.alloc(), case.taken)?.as_slice());
     }
     Ok(())
 }

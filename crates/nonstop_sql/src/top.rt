@@ -1,23 +1,25 @@
 //! The top call: from the words, the source and the wires to the sink.
-ghost use Rattle.std.specs.Prelude.{◌≡◌, ◌≤◌, ◌<◌, ◌↔◌, ◌⊎◌, vec_len, IfOk, IsSome};
+ghost use Rattle.std.specs.Prelude.{◌≡◌, ◌≤◌, ◌<◌, ◌⊎◌, map, vec_len, IfOk};
 ghost use Rattle.std.specs.Io.KnownBytes.{Keeps};
-ghost use Rattle.thin_scripts.specs.Thin.{IsThin};
-ghost use Rattle.statement_reader.specs.Spells.{Spells};
-ghost use Rattle.nonstop_sql.specs.Commands.{IsSteps};
-ghost use Rattle.nonstop_sql.specs.Steps.{IsRan, Runs, RunsBytes, StepsEnds, refusal_of};
+ghost use Rattle.sql_base.specs.Scripts.{IsScript};
+ghost use Rattle.nonstop_sql.specs.Commands.{IsCommand, IsNoCommand};
+ghost use Rattle.nonstop_sql.specs.Ends.{Ends, EndsOnBytes, Makes, Writes, refusal_of};
+ghost use Rattle.nonstop_sql.specs.declared.commands.Command.{Command as Asked};
 
 use crate::checks::PlainChecks;
-use crate::commands::{Command, command_of};
+use crate::commands::{Command, WordsFault, command_of};
 use crate::input::{ReadError, read_to_limit};
-use crate::outcome::{Outcome, Refusal};
+use crate::outcome::Outcome;
 use crate::output::write_all;
+use one_thread::answer;
 use outside::{Collector, Gate, Sink, Source, Wire};
+use record_text::text;
 use run_record::RunRecord;
 use sql_base::{NoMemory, Script};
+use statement_printer::print_script;
 use statement_reader::{ReadFault, read_script};
 use std::alloc::Global;
-use step_world::{drive, text};
-use thin_scripts::is_thin;
+use step_world::drive;
 
 /// How many wires a run is handed, one for each session that a script may have.
 pub const WIRES: usize = 8;
@@ -34,22 +36,22 @@ pub fn run<S: Source, K: Sink, G: Gate>(
     wires: Vec<Box<dyn Wire + Send>>,
     collectors: &mut Vec<Box<dyn Collector>>,
 ) -> Outcome
-    ensures refused { (result.status ≡ 2) ↔ ((IsSteps words.now → ⊥) ⊎ (vec_len wires < 8)) }
+    ensures refused { result.status ≡ 2 → IsNoCommand words.now ⊎ (vec_len wires < 8) }
+    ensures few_wires { vec_len wires < 8 → result.status ≡ 2 }
+    ensures no_command { IsNoCommand words.now → (result.status ≡ 2) ⊎ (result.status ≡ 5) }
+    ensures ended { result.status ≤ 5 }
     ensures untouched { result.status ≡ 2 → (source.new ≡ source.old) × (sink.new ≡ sink.old) }
     ensures unread { result.status ≡ 2 → Keeps (S.left source.old) (S.left source.new) × Keeps (K.taken sink.old) (K.taken sink.new) }
-    ensures kept { (result.status ≡ 0) ↔ IsSome result.kept }
-    ensures fault { (result.status ≡ 1) ↔ IsSome result.fault }
     ensures unseen { collectors.new ≡ collectors.old }
-    ensures ran { IsSteps words.now → 8 ≤ vec_len wires →
-        StepsEnds (S.left source.old) (S.left source.new) (S.faults source.old) (S.faults source.new)
-        (K.taken sink.old) (K.taken sink.new) (K.faults sink.old) (K.faults sink.new) result }
+    ensures ran { (asked : Asked) → IsCommand words.now asked → 8 ≤ vec_len wires → Ends asked (map (λ w. record { first = first w; round = round w }) wires.items) (S.left source.old) (S.left source.new) (S.faults source.old) (S.faults source.new) (K.taken sink.old) (K.taken sink.new) (K.faults sink.old) (K.faults sink.new) result }
 {
     if wires.len() < WIRES {
         return Outcome::bare(2);
     }
-    match command_of(words) {
+    match command_of(alloc, words) {
         Ok(command) => run_alone(alloc, &command, source, sink, wires, collectors),
-        Err(_) => Outcome::bare(2),
+        Err(WordsFault::Refused) => Outcome::bare(2),
+        Err(WordsFault::NoMemory) => Outcome::bare(5),
     }
 }
 
@@ -64,45 +66,29 @@ pub fn run_alone<S: Source, K: Sink>(
 ) -> Outcome
     requires { 8 ≤ vec_len wires }
     ensures unseen { collectors.new ≡ collectors.old }
-    ensures ran { StepsEnds (S.left source.old) (S.left source.new) (S.faults source.old) (S.faults source.new)
-        (K.taken sink.old) (K.taken sink.new) (K.faults sink.old) (K.faults sink.new) result }
-{
-    match command {
-        Command::Steps => steps(alloc, source, sink),
-    }
-}
-
-/// Reads a script, runs it and writes its text.
-fn steps<S: Source, K: Sink>(alloc: Global, source: &mut S, sink: &mut K) -> Outcome
-    ensures { StepsEnds (S.left source.old) (S.left source.new) (S.faults source.old) (S.faults source.new)
-        (K.taken sink.old) (K.taken sink.new) (K.faults sink.old) (K.faults sink.new) result }
+    ensures ran { Ends command.now (map (λ w. record { first = first w; round = round w }) wires.items) (S.left source.old) (S.left source.new) (S.faults source.old) (S.faults source.new) (K.taken sink.old) (K.taken sink.new) (K.faults sink.old) (K.faults sink.new) result }
 {
     match read_to_limit(alloc, source) {
-        Ok(bytes) => run_bytes(alloc, bytes.as_slice(), sink),
+        Ok(bytes) => run_bytes(alloc, command, bytes.as_slice(), sink, wires),
         Err(ReadError::Failed) => Outcome::bare(3),
         Err(ReadError::NoMemory) => Outcome::bare(5),
     }
 }
 
-/// Runs the script that the bytes spell.
-fn run_bytes<K: Sink>(alloc: Global, bytes: &[u8], sink: &mut K) -> Outcome
-    ensures { RunsBytes bytes.now (K.taken sink.old) (K.taken sink.new) (K.faults sink.old) (K.faults sink.new) result }
+/// Runs the command on the script that the bytes spell.
+fn run_bytes<K: Sink>(
+    alloc: Global,
+    command: &Command,
+    bytes: &[u8],
+    sink: &mut K,
+    wires: Vec<Box<dyn Wire + Send>>,
+) -> Outcome
+    requires { 8 ≤ vec_len wires }
+    ensures { EndsOnBytes command.now (map (λ w. record { first = first w; round = round w }) wires.items) bytes.now (K.taken sink.old) (K.taken sink.new) (K.faults sink.old) (K.faults sink.new) result }
 {
     match read_script(alloc, &PlainChecks, bytes) {
-        Ok(script) => run_read(alloc, &script, sink, bytes),
+        Ok(script) => run_script(alloc, command, &script, sink, wires),
         Err(error) => refuse(error),
-    }
-}
-
-/// Runs a script that was read, where it is of the form that is run so far.
-fn run_read<K: Sink>(alloc: Global, script: &Script, sink: &mut K, bytes: &[u8]) -> Outcome
-    requires { Spells bytes.now script.now }
-    ensures { RunsBytes bytes.now (K.taken sink.old) (K.taken sink.new) (K.faults sink.old) (K.faults sink.new) result }
-{
-    if is_thin(script) {
-        run_script(alloc, script, sink)
-    } else {
-        Outcome::refused(Refusal::NotYet)
     }
 }
 
@@ -111,34 +97,54 @@ fn refuse(error: ReadFault) -> Outcome
     ensures { result ≡ refusal_of error }
 {
     match error {
-        ReadFault::Script(fault) => Outcome::refused(Refusal::Script(fault)),
+        ReadFault::Script(fault) => Outcome::refused(fault),
         ReadFault::NoMemory => Outcome::bare(5),
     }
 }
 
-fn run_script<K: Sink>(alloc: Global, script: &Script, sink: &mut K) -> Outcome
-    requires { IsThin script.now }
-    ensures { Runs script.now (K.taken sink.old) (K.taken sink.new) (K.faults sink.old) (K.faults sink.new) result }
+/// Writes what the command makes of the script.
+fn run_script<K: Sink>(
+    alloc: Global,
+    command: &Command,
+    script: &Script,
+    sink: &mut K,
+    wires: Vec<Box<dyn Wire + Send>>,
+) -> Outcome
+    requires script { IsScript script.now }
+    requires wires { 8 ≤ vec_len wires }
+    ensures { Writes command.now (map (λ w. record { first = first w; round = round w }) wires.items) script.now (K.taken sink.old) (K.taken sink.new) (K.faults sink.old) (K.faults sink.new) result }
 {
-    let Ok((kept, output)) = kept_and_text(alloc, script) else {
+    let Ok((kept, output)) = make(alloc, command, script, wires) else {
         return Outcome::bare(5);
     };
     match write_all(sink, output.as_slice()) {
         Ok(()) => Outcome {
             status: 0,
-            kept: Some(kept),
+            kept,
             fault: None,
         },
         Err(_) => Outcome::bare(4),
     }
 }
 
-/// What a run of the script kept, and its text.
-fn kept_and_text(alloc: Global, script: &Script) -> Result<(RunRecord, Vec<u8>), NoMemory>
-    requires { IsThin script.now }
-    ensures { IfOk result (λ r. IsRan script.now r.0 r.1.items) }
+/// What the command makes of the script: the record of a run, if it makes one, and a text.
+fn make(
+    alloc: Global,
+    command: &Command,
+    script: &Script,
+    wires: Vec<Box<dyn Wire + Send>>,
+) -> Result<(Option<RunRecord>, Vec<u8>), NoMemory>
+    requires script { IsScript script.now }
+    requires wires { 8 ≤ vec_len wires }
+    ensures { IfOk result (λ made. Makes command.now (map (λ w. record { first = first w; round = round w }) wires.items) script.now made.0 made.1.items) }
 {
-    let kept = drive(alloc, script)?;
-    let output = text(alloc, script, &kept)?;
-    Ok((kept, output))
+    match command {
+        Command::Check => Ok((None, print_script(alloc, script)?)),
+        Command::Oracle => Ok((None, answer(alloc, script)?)),
+        Command::Steps { choices } => {
+            let kept = drive(alloc, script, choices.items(), wires)?;
+            let output = text(alloc, script, &kept)?;
+            Ok((Some(kept), output))
+        }
+    }
 }

@@ -1,3 +1,7 @@
-pub mod WholeScan
-pub mod ThinText
-pub mod Running
+pub mod Tellings
+pub mod Mails
+pub mod Seats
+pub mod Worlds
+pub mod Choosing
+pub mod Openings
+pub mod Runs

@@ -1,94 +1,130 @@
-//! One action of a session, with what the partition or the journal does at once.
-ghost use Rattle.std.specs.Prelude.{◌≡◌, ◌<◌, ◌+◌, ◌^◌, ◌++◌, ◌∷◌, [], max, length, true, false, Ok, IfOk, OnOk};
-ghost use Rattle.scan_partition.specs.Kept.{IsServed, entry_of, opener_in, served};
-ghost use Rattle.session_grammar.specs.Sessions.{Ends};
-ghost use Rattle.sql_base.specs.declared.scripts.Script.{Script as AnyScript};
-ghost use Rattle.step_world.specs.Running.{Running, actions_left, last_stamp};
+//! The actions of sessions and partitions.
+ghost use Rattle.std.specs.Prelude.{◌≡◌, ◌≤◌, ◌<◌, ◌+◌, ◌^◌, suc, length, ◌++◌, ◌∷◌, [], List, max, OnOk, IfOk};
+ghost use Rattle.commit_journal.specs.Journal.{last_stamp};
+ghost use Rattle.std.specs.List.{AllByRecursion};
+ghost use Rattle.driver_laws.specs.Scheduling.{OfPartition, OfSession};
+ghost use Rattle.step_world.specs.Tellings.{Telling};
+ghost use Rattle.step_world.specs.declared.seats.Turn.{Turn};
+ghost use Rattle.step_world.specs.Worlds.{AreLater, Driving, GoesOn, GoesOnWith, HasMail, Setting, TurnAt, scene};
 
+use crate::seats::Outgoing;
+use crate::worlds::World;
 use commit_journal::Drawn;
-use dp_messages::{Reply, Request};
-use requester_fs::Session;
-use scan_partition::{Partition, Pick, Served};
-use session_grammar::{Action, Answer};
+use outside::Passage;
+use requester_fs::Requester;
+use run_record::Act;
+use session_grammar::Answer;
 use sql_base::{List, NoMemory, TxnName};
 use std::alloc::Global;
 
-/// Takes the session's next action, unless it has finished.
-pub fn step(
-    alloc: Global,
-    session: &mut Session,
-    partition: &mut Partition,
-    journal: &mut List<Drawn>,
-) -> Result<bool, NoMemory>
-    requires { (script : AnyScript) × Running script session.old partition.old journal.old }
-    ensures runs { OnOk result ((script : AnyScript) → Running script session.old partition.old journal.old → Running script session.new partition.new journal.new) }
-    ensures ends { result ≡ Ok false → session.new.next ≡ Ends }
-    ensures fewer { result ≡ Ok true → actions_left session.new.next partition.new.now.cells < actions_left session.old.next partition.old.now.cells }
-{
-    match session.next() {
-        Action::Finished => Ok(false),
-        Action::Commit { name, floor } => {
-            let stamp = draw(journal, name, floor)?;
-            session.take(Answer::Stamp(stamp), 0)?;
-            Ok(true)
-        }
-        Action::Send { sync, request, .. } => {
-            let reply = ask(alloc, partition, sync, request)?;
-            session.take(Answer::Reply(reply), 0)?;
-            Ok(true)
-        }
+impl<Q: Requester> World<Q> {
+    /// A session gives its request to its path, of which this becomes. The fourth loss of a request that isn't an End fails it.
+    pub fn send(&mut self, alloc: Global, at: usize, passage: Passage) -> Result<(), NoMemory>
+        requires driving { (setting : Setting) × (tellings : List Telling) × Driving setting tellings (scene Q.asking self.old) }
+        requires turn { TurnAt (scene Q.asking self.old) at Turn.Send }
+        requires single { AllByRecursion (λ s. Q.single s.requester) self.old.seats.items }
+        ensures goes_on { OnOk result (GoesOnWith at passage (scene Q.asking self.old) (scene Q.asking self.new)) }
+        ensures later { OnOk result (AreLater Q.single Q.allows self.old.seats.items self.new.seats.items) }
+    {
+        let seat = &mut self.seats[at];
+        let Outgoing {
+            part,
+            envelope,
+            is_end,
+        } = seat.outgoing()?;
+        let sync = envelope.sync;
+        self.processes[part as usize].post(alloc, envelope, passage)?;
+        self.acts.push(Act::Send {
+            session: seat.number,
+            part,
+            sync,
+            passage,
+        })?;
+        seat.note_passage(passage, is_end)
+    }
+
+    /// A session takes the reply that it waits for.
+    pub fn take(&mut self, at: usize) -> Result<(), NoMemory>
+        requires driving { (setting : Setting) × (tellings : List Telling) × Driving setting tellings (scene Q.asking self.old) }
+        requires turn { TurnAt (scene Q.asking self.old) at Turn.Take }
+        requires single { AllByRecursion (λ s. Q.single s.requester) self.old.seats.items }
+        ensures goes_on { OnOk result (GoesOn (OfSession (suc at)) (scene Q.asking self.old) (scene Q.asking self.new)) }
+        ensures later { OnOk result (AreLater Q.single Q.allows self.old.seats.items self.new.seats.items) }
+    {
+        let seat = &mut self.seats[at];
+        let (part, sync) = seat.awaited();
+        let reply = self.processes[part as usize].reply(seat.number, sync)?;
+        self.acts.push(Act::Take {
+            session: seat.number,
+        })?;
+        seat.take(Answer::Reply(reply))
+    }
+
+    /// A session serves the End itself that its path lost four times, and takes the reply.
+    pub fn serve_by_hand(&mut self, alloc: Global, at: usize) -> Result<(), NoMemory>
+        requires driving { (setting : Setting) × (tellings : List Telling) × Driving setting tellings (scene Q.asking self.old) }
+        requires turn { TurnAt (scene Q.asking self.old) at Turn.ServeByHand }
+        requires single { AllByRecursion (λ s. Q.single s.requester) self.old.seats.items }
+        ensures goes_on { OnOk result (GoesOn (OfSession (suc at)) (scene Q.asking self.old) (scene Q.asking self.new)) }
+        ensures later { OnOk result (AreLater Q.single Q.allows self.old.seats.items self.new.seats.items) }
+    {
+        let seat = &mut self.seats[at];
+        let Outgoing { part, envelope, .. } = seat.outgoing()?;
+        let sync = envelope.sync;
+        let reply = self.processes[part as usize].serve_and_reply(alloc, envelope)?;
+        self.acts.push(Act::ByHand {
+            session: seat.number,
+            part,
+            sync,
+        })?;
+        seat.take(Answer::Reply(reply))
+    }
+
+    /// A session draws its commit.
+    pub fn draw(&mut self, at: usize) -> Result<(), NoMemory>
+        requires driving { (setting : Setting) × (tellings : List Telling) × Driving setting tellings (scene Q.asking self.old) }
+        requires turn { TurnAt (scene Q.asking self.old) at Turn.Draw }
+        requires single { AllByRecursion (λ s. Q.single s.requester) self.old.seats.items }
+        ensures goes_on { OnOk result (GoesOn (OfSession (suc at)) (scene Q.asking self.old) (scene Q.asking self.new)) }
+        ensures later { OnOk result (AreLater Q.single Q.allows self.old.seats.items self.new.seats.items) }
+    {
+        let seat = &mut self.seats[at];
+        let (name, floor) = seat.commit();
+        let stamp = draw(&mut self.journal, name, floor)?;
+        self.acts.push(Act::Draw {
+            session: seat.number,
+        })?;
+        seat.take(Answer::Stamp(stamp))
+    }
+
+    /// A partition serves the oldest message of its mail.
+    pub fn serve(&mut self, alloc: Global, part: usize) -> Result<(), NoMemory>
+        requires driving { (setting : Setting) × (tellings : List Telling) × Driving setting tellings (scene Q.asking self.old) }
+        requires mail { HasMail self.old.processes.items part }
+        requires few { part < 2 ^ 32 }
+        ensures goes_on { OnOk result (GoesOn (OfPartition part) (scene Q.asking self.old) (scene Q.asking self.new)) }
+        ensures later { OnOk result (AreLater Q.single Q.allows self.old.seats.items self.new.seats.items) }
+    {
+        let sender = self.processes[part].serve_oldest(alloc)?;
+        let part = part as u32;
+        self.acts.push(Act::Serve {
+            part,
+            opener: sender.opener,
+            sync: sender.sync,
+        })?;
+        self.seats[sender.opener as usize - 1].note_served(part, sender.sync);
+        Ok(())
     }
 }
 
-/// Draws the next stamp above the floor.
+/// Draws the next stamp above the floor. The stamps of a run are 1, 2, 3 and so on, and no floor is above the last of them.
 fn draw(journal: &mut List<Drawn>, name: TxnName, floor: u64) -> Result<u64, NoMemory>
-    requires unspent { max (last_stamp journal.old) floor + 1 < 2 ^ 64 }
-    ensures stamp { IfOk result (λ stamp. stamp ≡ max (last_stamp journal.old) floor + 1) }
-    ensures drawn { OnOk result (journal.new ≡ journal.old ++ record { name = name; floor = floor; stamp = max (last_stamp journal.old) floor + 1 } ∷ []) }
+    requires counted { last_stamp 0 journal.old ≡ length journal.old }
+    requires low { floor ≤ length journal.old }
+    ensures stamp { IfOk result (λ stamp. stamp ≡ max (last_stamp 0 journal.old) floor + 1) }
+    ensures drawn { OnOk result (journal.new ≡ journal.old ++ record { name = name; floor = floor; stamp = max (last_stamp 0 journal.old) floor + 1 } ∷ []) }
 {
-    let stamp = last_stamp(journal.items()).max(floor) + 1;
+    let stamp = journal.items().len() as u64 + 1;
     journal.push(Drawn { name, floor, stamp })?;
     Ok(stamp)
-}
-
-/// The stamp drawn last, or 0.
-fn last_stamp(journal: &[Drawn]) -> u64
-    ensures { result ≡ last_stamp journal.now }
-{
-    match journal.last() {
-        Some(drawn) => drawn.stamp,
-        None => 0,
-    }
-}
-
-/// The partition's reply to a request of the session with a new sync.
-fn ask(
-    alloc: Global,
-    partition: &mut Partition,
-    sync: u64,
-    request: &Request,
-) -> Result<Reply, NoMemory>
-    requires served { IsServed request.now.ask }
-    requires openers { length partition.old.now.openers ≡ 8 }
-    requires fresh { (opener_in partition.old 1).last < sync }
-    ensures reply { IfOk result (λ reply. reply ≡ (entry_of partition.old.now 1 sync request.now).reply) }
-    ensures served { OnOk result (partition.new ≡ served partition.old 1 sync request.now) }
-{
-    match partition.serve(alloc, 1, sync, request) {
-        Served::New => {}
-        Served::Starved => return Err(NoMemory),
-        Served::Repeat => unreachable!(),
-        Served::Old => unreachable!(),
-    }
-    match partition.pickup(1, sync) {
-        Pick::Reply(reply) => copy_of(reply),
-        Pick::Pending => unreachable!(),
-        Pick::Passed => unreachable!(),
-    }
-}
-
-fn copy_of(reply: &Reply) -> Result<Reply, NoMemory>
-    ensures { IfOk result (λ copy. copy ≡ reply.now) }
-{
-    Ok(reply.clone()?)
 }

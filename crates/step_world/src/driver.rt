@@ -1,67 +1,166 @@
-//! The run of a script with one session and one partition.
-ghost use Rattle.std.specs.Prelude.{◌≡◌, ◌∷◌, [], IfOk};
-ghost use Rattle.std.specs.List.{AllByRecursion};
-ghost use Rattle.run_record.specs.Text.{IsText};
-ghost use Rattle.one_thread.specs.One.{loaded};
-ghost use Rattle.one_thread.specs.Text.{run_text};
-ghost use Rattle.run_record.specs.Headline.{Headline};
-ghost use Rattle.step_world.specs.ThinText.{thin_shown};
-ghost use Rattle.step_world.specs.WholeScan.{IsRun, LosesNothing};
-ghost use Rattle.step_world.specs.Running.{Opens};
+//! The run of a script, one action after the other.
+ghost use Rattle.std.specs.Prelude.{◌≡◌, ◌≤◌, ◌<◌, suc, length, map, vec_len, IfOk, OnOk};
+ghost use Rattle.std.specs.List.{AllByRecursion, AllZip};
+ghost use Rattle.outside.specs.Wire.{Answers};
+ghost use Rattle.sql_base.specs.Scripts.{IsScript};
+ghost use Rattle.run_record.specs.Legal.{Legal};
+ghost use Rattle.driver_laws.specs.Scheduling.{OfSession, Scheduled};
+ghost use Rattle.step_world.specs.Choosing.{actor_seen};
+ghost use Rattle.step_world.specs.Runs.{AllCarried, AreNew, AreSeated, CanAct, GoesOnFrom};
+ghost use Rattle.step_world.specs.Tellings.{HasTold, Telling};
+ghost use Rattle.step_world.specs.declared.choosing.Agent.{Agent};
+ghost use Rattle.step_world.specs.Worlds.{AreLater, Driving, Setting, scene};
 
-use crate::actions::step;
-use commit_journal::Drawn;
-use requester_fs::Session;
+use crate::choosing::Agent;
+use crate::ending::record;
+use crate::faults::not_carried;
+use crate::openings::open;
+use crate::seats::{Seat, Turn};
+use crate::worlds::World;
+use outside::{Passage, Wire};
+use requester_fs::Requester;
 use run_record::RunRecord;
-use scan_partition::Partition;
 use sql_base::{List, NoMemory, Script};
 use std::alloc::Global;
 
-/// Runs the script's one session against its one partition, and gives what they kept. It always comes to an end:
-/// each request has a reply that fits it, and fewer actions are left after each.
-pub fn drive(alloc: Global, script: &Script) -> Result<RunRecord, NoMemory>
-    requires { IsRun script.now }
-    ensures headline { IfOk result (Headline script.now) }
-    ensures printed { IfOk result (λ kept. IsText script.now kept (run_text script.now.tables (thin_shown script.now kept) (loaded script.now).records)) }
-    ensures unscheduled { IfOk result (λ kept. kept.acts ≡ []) }
-    ensures unlost { IfOk result (λ kept. AllByRecursion (λ log. AllByRecursion LosesNothing log) kept.logs) }
+/// Runs the script by its requesters, one for each session, with a wire for each at least. Each action is that of the
+/// enabled session or partition that the next choice names. It waits for nobody.
+pub fn drive_with<Q: Requester>(
+    alloc: Global,
+    script: &Script,
+    requesters: Vec<Q>,
+    schedule: &[u32],
+    wires: Vec<Box<dyn Wire + Send>>,
+) -> Result<RunRecord, NoMemory>
+    requires script { IsScript script.now }
+    requires requesters { AreNew Q.asking script.now requesters.items }
+    requires single { AllByRecursion Q.single requesters.items }
+    requires wires { length requesters.items ≤ length wires.items }
+    ensures legal { IfOk result (Legal script.now) }
+    ensures scheduled { IfOk result (Scheduled schedule.now) }
+    ensures carried { IfOk result (AllCarried (map {B = Telling} (λ w. record { first = first w; round = round w }) wires.items)) }
+    ensures allowed { IfOk result (λ kept. AllZip Q.allows requesters.items kept.logs) }
 {
-    let mut partition = open(alloc, script)?;
-    let mut session = Session::new(alloc, script, 1)?;
-    let mut journal = List::new(alloc);
-    while step(alloc, &mut session, &mut partition, &mut journal)? {}
-    record(alloc, session, partition, journal)
+    let mut wires = wires;
+    let mut world = World {
+        seats: take_seats(alloc, requesters)?,
+        processes: open(alloc, script)?,
+        journal: List::new(alloc),
+        acts: List::new(alloc),
+    };
+    start_from(&mut wires, 0, world.seats.len());
+    for _turn in 0..u64::MAX {
+        match world.next_agent(alloc, schedule)? {
+            Some(agent) => act(alloc, &mut world, &mut wires, agent)?,
+            None => return record(alloc, world),
+        }
+    }
+    Err(not_carried())
 }
 
-/// The partition of the script's table, with its LOAD rows.
-fn open(alloc: Global, script: &Script) -> Result<Partition, NoMemory>
-    requires { IsRun script.now }
-    ensures { IfOk result (Opens script.now) }
+/// The seats of the sessions, with nothing done yet.
+fn take_seats<Q: Requester>(alloc: Global, requesters: Vec<Q>) -> Result<Vec<Seat<Q>>, NoMemory>
+    requires { length requesters.items ≤ 8 }
+    ensures { IfOk result (λ seats. AreSeated requesters.items seats.items) }
 {
-    let table = &script.tables.items()[0];
-    match script.loads.items() {
-        [] => Partition::new(alloc, table, 0, script.limits, &[]),
-        [load, ..] => Partition::new(alloc, table, 0, script.limits, load.rows.items()),
+    let mut seats = Vec::new(alloc);
+    let mut number = 0;
+    for requester in requesters {
+        number += 1;
+        seats.push(Seat {
+            number,
+            requester,
+            losses: 0,
+            waits: false,
+            is_served: false,
+        })?;
+    }
+    Ok(seats)
+}
+
+/// Tells the wire of each session from a place on its number.
+fn start_from(wires: &mut Vec<Box<dyn Wire + Send>>, at: usize, sessions: usize)
+    requires { sessions ≤ vec_len wires.old }
+    ensures told { map {B = Telling} (λ w. record { first = first w; round = round w }) wires.new.items ≡ map {B = Telling} (λ w. record { first = first w; round = round w }) wires.old.items }
+    ensures many { vec_len wires.new ≡ vec_len wires.old }
+{
+    if at < sessions {
+        start(&mut wires[at], at as u64 + 1);
+        start_from(wires, at + 1, sessions);
     }
 }
 
-/// What a run keeps of its session, its partition and its journal.
-fn record(
-    alloc: Global,
-    session: Session,
-    partition: Partition,
-    journal: List<Drawn>,
-) -> Result<RunRecord, NoMemory>
-    ensures { IfOk result (λ kept. kept ≡ record { histories = partition.history ∷ []; journal = journal; logs = session.log ∷ []; acts = [] }) }
+fn start(wire: &mut Box<dyn Wire + Send>, number: u64)
+    ensures first { first wire.new ≡ first wire.old }
+    ensures round { round wire.new ≡ round wire.old }
 {
-    let mut histories = List::new(alloc);
-    histories.push(partition.into_history())?;
-    let mut logs = List::new(alloc);
-    logs.push(session.into_log())?;
-    Ok(RunRecord {
-        histories,
-        journal,
-        logs,
-        acts: List::new(alloc),
-    })
+    wire.start(number);
+}
+
+/// What becomes of the next message on a wire.
+fn pass(wire: &mut Box<dyn Wire + Send>) -> Passage
+    ensures answer { Answers (first wire.old) (round wire.old) result (first wire.new) }
+    ensures same_round { round wire.new ≡ round wire.old }
+{
+    wire.pass()
+}
+
+/// What becomes of the next message of the session at a place.
+fn pass_at(wires: &mut Vec<Box<dyn Wire + Send>>, at: usize) -> Passage
+    requires { at < length wires.old.items }
+    ensures { HasTold at result (map {B = Telling} (λ w. record { first = first w; round = round w }) wires.old.items) (map {B = Telling} (λ w. record { first = first w; round = round w }) wires.new.items) }
+{
+    pass(&mut wires[at])
+}
+
+/// Lets a session or a partition act.
+fn act<Q: Requester>(
+    alloc: Global,
+    world: &mut World<Q>,
+    wires: &mut Vec<Box<dyn Wire + Send>>,
+    agent: Agent,
+) -> Result<(), NoMemory>
+    requires driving { (setting : Setting) × Driving setting (map {B = Telling} (λ w. record { first = first w; round = round w }) wires.old.items) (scene Q.asking world.old) }
+    requires wires { length world.old.seats.items ≤ length wires.old.items }
+    requires enabled { CanAct (scene Q.asking world.old) agent }
+    requires single { AllByRecursion (λ s. Q.single s.requester) world.old.seats.items }
+    ensures goes_on { OnOk result (GoesOnFrom (actor_seen agent)
+        (map {B = Telling} (λ w. record { first = first w; round = round w }) wires.old.items) (scene Q.asking world.old)
+        (map {B = Telling} (λ w. record { first = first w; round = round w }) wires.new.items) (scene Q.asking world.new)) }
+    ensures later { OnOk result (AreLater Q.single Q.allows world.old.seats.items world.new.seats.items) }
+    ensures wires { length wires.new.items ≡ length wires.old.items }
+{
+    match agent {
+        Agent::Session(number) => act_for(alloc, world, wires, number - 1),
+        Agent::Partition(part) => world.serve(alloc, part),
+    }
+}
+
+/// Lets the session at a place do what it does next.
+fn act_for<Q: Requester>(
+    alloc: Global,
+    world: &mut World<Q>,
+    wires: &mut Vec<Box<dyn Wire + Send>>,
+    at: usize,
+) -> Result<(), NoMemory>
+    requires driving { (setting : Setting) × Driving setting (map {B = Telling} (λ w. record { first = first w; round = round w }) wires.old.items) (scene Q.asking world.old) }
+    requires wires { length world.old.seats.items ≤ length wires.old.items }
+    requires enabled { CanAct (scene Q.asking world.old) (Agent.Session (suc at)) }
+    requires single { AllByRecursion (λ s. Q.single s.requester) world.old.seats.items }
+    ensures goes_on { OnOk result (GoesOnFrom (OfSession (suc at))
+        (map {B = Telling} (λ w. record { first = first w; round = round w }) wires.old.items) (scene Q.asking world.old)
+        (map {B = Telling} (λ w. record { first = first w; round = round w }) wires.new.items) (scene Q.asking world.new)) }
+    ensures later { OnOk result (AreLater Q.single Q.allows world.old.seats.items world.new.seats.items) }
+    ensures wires { length wires.new.items ≡ length wires.old.items }
+{
+    match world.seats[at].turn() {
+        Turn::Send => {
+            let passage = pass_at(wires, at);
+            world.send(alloc, at, passage)
+        }
+        Turn::Take => world.take(at),
+        Turn::ServeByHand => world.serve_by_hand(alloc, at),
+        Turn::Draw => world.draw(at),
+        Turn::Wait | Turn::Rest => unreachable!(),
+    }
 }

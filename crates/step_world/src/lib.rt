@@ -1,11 +1,17 @@
-//! The run of a script on one thread, in which each request is served as it is sent, and the text of its record.
+//! A driver that takes one action after the other, as a list of choices says.
 #![tactic(auto)]
 
 mod actions;
-mod attempts;
+mod choosing;
 mod driver;
-mod loads;
-mod texts;
+mod ending;
+mod faults;
+mod openings;
+mod paths;
+mod processes;
+mod seats;
+mod sessions;
+mod worlds;
 
-pub use driver::drive;
-pub use texts::text;
+pub use driver::drive_with;
+pub use sessions::drive;

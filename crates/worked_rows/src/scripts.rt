@@ -1,4 +1,4 @@
-//! Scripts that are built by hand, as they are printed, and whether they are thin.
+//! Scripts that are built by hand, as they are printed.
 use sql_base::{
     Access, Column, ColumnKind, Limits, List, Load, Mode, Name, NoMemory, Row, Script, Statement,
     TableDef, Value, Work,
@@ -6,7 +6,6 @@ use sql_base::{
 use statement_printer::{print_script, print_statement};
 use std::alloc::Global;
 use std::test::Fail;
-use thin_scripts::is_thin;
 
 fn list<T: Drop>(alloc: Global, item: T) -> Result<List<T>, NoMemory> {
     let mut list = List::new(alloc);
@@ -109,19 +108,5 @@ fn a_script_is_printed(rt: HostRuntime) -> Result<(), Fail> {
     };
     let printed = print_statement(rt.alloc(), &lock, &script.tables)?;
     assert!(rt; printed.as_slice() == b"LOCK TABLE t IN SHARE MODE ;\n".as_slice());
-    Ok(())
-}
-
-#[test]
-fn scripts_are_thin(rt: HostRuntime) -> Result<(), Fail> {
-    let rows = [
-        (Access::Repeatable, true),
-        (Access::Stable, false),
-        (Access::Browse, false),
-    ];
-    for (access, wanted) in rows {
-        let script = script(rt.alloc(), scan(rt.alloc(), access)?)?;
-        assert_eq!(rt; is_thin(&script), wanted);
-    }
     Ok(())
 }

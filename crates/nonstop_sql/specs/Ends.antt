@@ -1,0 +1,107 @@
+-- How a command ends.
+-- Each is told of what the sink took and of its faults, before and after.
+use Rattle.std.specs.Prelude.{◌≡◌, ◌≢◌, ◌≤◌, ℕ, List, [], take, drop, Option, Some, None, IsSome, IfSome, ◌↔◌, ◌⊎◌}
+use Rattle.std.specs.Io.KnownBytes.{Appends, Keeps}
+use Rattle.sql_base.specs.declared.scripts.Script.{Script}
+use Rattle.outside.specs.Counter.{Rose}
+use Rattle.one_thread.specs.Answer.{answer_text}
+use Rattle.statement_printer.specs.Printing.{printed}
+use Rattle.statement_reader.specs.Spells.{Spells, IsFault}
+use Rattle.statement_reader.specs.declared.faults.ReadFault.{ReadFault}
+use Rattle.statement_reader.specs.declared.faults.ReadFault.TheVariants as reads
+use Rattle.run_record.specs.Headline.{Headline}
+use Rattle.run_record.specs.Text.{IsText}
+use Rattle.run_record.specs.declared.records.RunRecord.{RunRecord}
+use Rattle.driver_laws.specs.Scheduling.{Scheduled}
+use Rattle.step_world.specs.Runs.{AllCarried}
+use Rattle.step_world.specs.Tellings.{Telling}
+use Rattle.nonstop_sql.specs.declared.commands.Command.{Command}
+use Rattle.nonstop_sql.specs.declared.commands.Command.TheVariants as command
+use Rattle.nonstop_sql.specs.declared.outcome.Outcome.{Outcome}
+
+-- what was kept of a run has the headline; its acts are those that the choices picked, and its losses those that the wires told; and these bytes are its text
+pub record IsRun (choices : List ℕ) (wires : List Telling) (script : Script) (kept : RunRecord) (text : List ℕ) : Type 0 where
+  pub headline : Headline script kept
+  pub scheduled : Scheduled choices kept
+  pub carried : AllCarried wires kept
+  pub text_is : IsText script kept text
+
+-- what a command makes of a script: the record of a run, if it makes one, and a text
+abbrev pub Makes : Command → List Telling → Script → Option RunRecord → List ℕ → Type 0
+Makes command.Check wires script kept text = (kept ≡ None) × (text ≡ printed script)
+Makes command.Oracle wires script kept text = (kept ≡ None) × (text ≡ answer_text script)
+Makes (command.Steps choices) wires script kept text = IsSome kept × IfSome kept (λ k. IsRun choices wires script k text)
+
+-- whether it keeps the record of a run
+abbrev pub KeepsRecord : Command → Type 0
+KeepsRecord command.Check = ⊥
+KeepsRecord command.Oracle = ⊥
+KeepsRecord (command.Steps choices) = Unit {0}
+
+-- it is done: the text that it made of the script is written
+abbrev pub IsDone : Command → List Telling → Option (List ℕ) → Option (List ℕ) → Option RunRecord → Script → Type 0
+IsDone asked wires taken taken' kept script = (text : List ℕ) × Makes asked wires script kept text × Appends taken taken' text
+
+-- a write failed behind a front of such a text
+abbrev pub IsCut : Command → List Telling → Option (List ℕ) → Option (List ℕ) → Script → Type 0
+IsCut asked wires taken taken' script =
+    (kept : Option RunRecord) × (text : List ℕ) × Makes asked wires script kept text × ((count : ℕ) × Appends taken taken' (take count text))
+
+abbrev pub SpellsNone : List ℕ → Type 0
+SpellsNone bytes = (script : Script) → Spells bytes script → ⊥
+
+-- the bytes spell a script of which this holds
+abbrev pub Spelled : List ℕ → (Script → Type 0) → Type 0
+Spelled bytes P = (script : Script) × Spells bytes script × P script
+
+-- what was made of a script is written: all of it, or a front of it before a write failed
+pub record Writes (asked : Command) (wires : List Telling) (script : Script) (taken taken' : Option (List ℕ)) (faults faults' : ℕ) (o : Outcome) : Type 0 where
+  pub status : (o.status ≡ 0) ⊎ ((o.status ≡ 4) ⊎ (o.status ≡ 5))
+  pub fault : o.fault ≡ None
+  pub kept : IsSome o.kept ↔ ((o.status ≡ 0) × KeepsRecord asked)
+  pub failed : o.status ≡ 4 → Rose faults faults'
+  pub unwritten : o.status ≡ 5 → Keeps taken taken'
+  pub done : o.status ≡ 0 → IsDone asked wires taken taken' o.kept script
+  pub cut : o.status ≡ 4 → IsCut asked wires taken taken' script
+
+-- bytes that were read: refused just where they spell no script, unless memory ran out, and else something is made of that script
+pub record EndsOnBytes (asked : Command) (wires : List Telling) (bytes : List ℕ) (taken taken' : Option (List ℕ)) (faults faults' : ℕ) (o : Outcome) : Type 0 where
+  pub status : (o.status ≡ 1) ⊎ ((o.status ≡ 0) ⊎ ((o.status ≡ 4) ⊎ (o.status ≡ 5)))
+  pub fault : (o.status ≡ 1) ↔ IsSome o.fault
+  pub kept : IsSome o.kept ↔ ((o.status ≡ 0) × KeepsRecord asked)
+  pub refused : o.status ≡ 1 → SpellsNone bytes × IfSome o.fault (IsFault bytes)
+  pub refuses : SpellsNone bytes → (o.status ≡ 1) ⊎ (o.status ≡ 5)
+  pub failed : o.status ≡ 4 → Rose faults faults'
+  pub unwritten : o.status ≢ 0 → o.status ≢ 4 → Keeps taken taken'
+  pub done : o.status ≡ 0 → Spelled bytes (IsDone asked wires taken taken' o.kept)
+  pub cut : o.status ≡ 4 → Spelled bytes (IsCut asked wires taken taken')
+
+-- bytes that a source told: refused just where they spell no script, unless a read failed or memory ran out; done only once all of them were read,
+-- and refused once they were read to their end, or one byte beyond the most that a script has
+pub record EndsOnSource (bytes : List ℕ) (left' : Option (List ℕ)) (o : Outcome) : Type 0 where
+  pub refused : o.status ≡ 1 → SpellsNone bytes × IfSome o.fault (IsFault bytes)
+  pub refuses : SpellsNone bytes → (o.status ≡ 1) ⊎ ((o.status ≡ 3) ⊎ (o.status ≡ 5))
+  pub read_whole : o.status ≡ 0 → left' ≡ Some []
+  pub read_on : o.status ≡ 1 → left' ≡ Some (drop 4194305 bytes)
+
+-- a script was read of which this holds: it is the one that the bytes spell that the source had left, if it told them
+abbrev pub WasRead : Option (List ℕ) → (Script → Type 0) → Type 0
+WasRead left P = (bytes : List ℕ) × IfSome left (λ told. told ≡ bytes) × Spelled bytes P
+
+-- the whole: the bytes that the source had left, if it told them, and its faults come first
+pub record Ends (asked : Command) (wires : List Telling) (left left' : Option (List ℕ)) (read_faults read_faults' : ℕ) (taken taken' : Option (List ℕ)) (write_faults write_faults' : ℕ) (o : Outcome) : Type 0 where
+  pub status : o.status ≤ 5
+  pub words_stand : o.status ≢ 2
+  pub fault : (o.status ≡ 1) ↔ IsSome o.fault
+  pub kept : IsSome o.kept ↔ ((o.status ≡ 0) × KeepsRecord asked)
+  pub read_failed : o.status ≡ 3 → Rose read_faults read_faults'
+  pub write_failed : o.status ≡ 4 → Rose write_faults write_faults'
+  pub unwritten : o.status ≢ 0 → o.status ≢ 4 → Keeps taken taken'
+  pub told : IfSome left (λ bytes. EndsOnSource bytes left' o)
+  pub done : o.status ≡ 0 → WasRead left (IsDone asked wires taken taken' o.kept)
+  pub cut : o.status ≡ 4 → WasRead left (IsCut asked wires taken taken')
+
+-- how bytes end of which no script was read
+abbrev pub refusal_of : ReadFault → Outcome
+refusal_of (reads.Script fault) = record { status = 1; kept = None; fault = Some fault }
+refusal_of reads.NoMemory = record { status = 5; kept = None; fault = None }

@@ -1,4 +1,0 @@
-pub mod Kept
-pub mod Contents
-pub mod Changes
-pub mod Alone

@@ -1,0 +1,94 @@
+-- The partitions of the tables as they open, one after the other.
+use Rattle.std.proofs.Common.{◌≡◌, ◌<◌, ◌+◌, ℕ, List, [], ◌∷◌, ◌++◌, length, map, take, get_or, Bool, true, false, cond, append_assoc, ap, sym, ◌∙◌, subst, arith}
+use Rattle.std.specs.Prelude.{◌==◌}
+use Rattle.std.specs.List.{range_with_len}
+use Rattle.std.proofs.lemmas.Bool.Decides.{nat_tests}
+use Rattle.std.proofs.lemmas.List.{append-nil, length-take-le, take_more}
+use Rattle.std.proofs.lemmas.List.Elements.{filter_more}
+use Rattle.std.proofs.lemmas.List.FromFn.{length-map-range_with_len, map-range_with_len_more}
+use Rattle.sql_base.specs.Keys.{Rise}
+use Rattle.sql_base.specs.Rows.{AreRecords, IsRow, key_of}
+use Rattle.sql_base.specs.declared.scripts.Limits.{Limits}
+use Rattle.sql_base.specs.declared.tables.TableDef.{TableDef}
+use Rattle.sql_base.specs.declared.values.Value.{Value}
+use Rattle.key_sequenced.specs.Cells.{AreCells}
+use Rattle.partition_map.specs.Map.{part_of}
+use Rattle.partition_state.specs.State.{State, new_cell, opening}
+use Rattle.quantum_core.proofs.Windows.{all-filter}
+use Rattle.run_record.specs.Openings.{openings_from, rows_in_part}
+use Rattle.serial_laws.proofs.Opened.{sound-opening}
+use Rattle.step_world.specs.Openings.{AreOpened, is_opened, table_openings}
+use Rattle.step_world.specs.declared.processes.DiskProcess.{DiskProcess}
+
+-- the keys of rows are those of their cells
+rise_rows : (table : TableDef) (rows : List (List Value)) → AreCells (map (new_cell table) rows) → Rise (map (key_of table) rows)
+rise_rows table [] h = tt
+rise_rows table (row ∷ []) h = tt
+rise_rows table (row ∷ other ∷ rows) h = (h.0, rise_rows table (other ∷ rows) h.1)
+
+-- the records of a table that lie in one partition are records of it
+pub part_records : (limits : Limits) (table : TableDef) (place : ℕ) (rows : List (List Value)) → AreRecords table rows → AreRecords table (rows_in_part table place rows)
+part_records limits table place rows are =
+    let sound = sound-opening table place limits rows are in
+    (all-filter (IsRow table) (λ row. part_of table (key_of table row) == place) rows are.0, rise_rows table (rows_in_part table place rows) sound.keeps.cells.rise)
+
+-- one process behind the others
+one_behind : (states : List State) (processes : List DiskProcess) (p : State) (d : DiskProcess) → AreOpened states processes → is_opened p d → AreOpened (states ++ p ∷ []) (processes ++ d ∷ [])
+one_behind [] [] p d are is = (is, tt)
+one_behind [] (e ∷ processes) p d are is = absurd are
+one_behind (q ∷ states) [] p d are is = absurd are
+one_behind (q ∷ states) (e ∷ processes) p d are is = (are.0, one_behind states processes p d are.1 is)
+
+-- the first partitions of a table
+abbrev pub first_openings : Limits → TableDef → List (List Value) → ℕ → List State
+first_openings limits table rows n = map (λ place. opening table place limits (rows_in_part table place rows)) (range_with_len 0 n)
+
+-- one partition more
+pub part_more : (limits : Limits) (table : TableDef) (rows : List (List Value)) (n : ℕ) (states : List State) (processes : List DiskProcess) (d : DiskProcess)
+    → AreOpened (states ++ first_openings limits table rows n) processes → is_opened (opening table n limits (rows_in_part table n rows)) d → AreOpened (states ++ first_openings limits table rows (n + 1)) (processes ++ d ∷ [])
+part_more limits table rows n states processes d are is =
+    let p : State = opening table n limits (rows_in_part table n rows) in
+    let count : 0 + n ≡ n = omega arith in
+    let more = map-range_with_len_more (λ place. opening table place limits (rows_in_part table place rows)) 0 n n count in
+    let front : states ++ first_openings limits table rows (n + 1) ≡ (states ++ first_openings limits table rows n) ++ p ∷ [] = ap (λ ps. states ++ ps) more ∙ sym (append_assoc states (first_openings limits table rows n) (p ∷ [])) in
+    subst (λ ps. AreOpened ps (processes ++ d ∷ [])) (sym front) (one_behind (states ++ first_openings limits table rows n) processes p d are is)
+
+-- one table behind the others
+table_behind : (limits : Limits) (tables : List TableDef) (loads : List (List (List Value))) (table : TableDef) (rows : List (List Value)) → length tables ≡ length loads
+    → openings_from limits (tables ++ table ∷ []) (loads ++ rows ∷ []) ≡ openings_from limits tables loads ++ table_openings limits table rows
+table_behind limits [] [] table rows same = append-nil (table_openings limits table rows)
+table_behind limits [] (other ∷ loads) table rows same = absurd (omega (arith, same))
+table_behind limits (t ∷ tables) [] table rows same = absurd (omega (arith, same))
+table_behind limits (t ∷ tables) (other ∷ loads) table rows same =
+    ap (λ ps. table_openings limits t other ++ ps) (table_behind limits tables loads table rows (omega (arith, same)))
+    ∙ sym (append_assoc (table_openings limits t other) (openings_from limits tables loads) (table_openings limits table rows))
+
+-- the partitions of the first tables
+abbrev pub openings_of : Limits → List TableDef → (ℕ → List (List Value)) → ℕ → List State
+openings_of limits tables loads n = openings_from limits (take n tables) (map loads (range_with_len 0 n))
+
+pub table_more : (limits : Limits) (tables : List TableDef) (loads : ℕ → List (List Value)) (n : ℕ) (table : TableDef) → n < length tables → table ≡ get_or tables n table
+    → openings_of limits tables loads n ++ table_openings limits table (loads n) ≡ openings_of limits tables loads (n + 1)
+table_more limits tables loads n table lt is =
+    let count : 0 + n ≡ n = omega arith in
+    let front : take (n + 1) tables ≡ take n tables ++ table ∷ [] = take_more tables n table lt ∙ ap (λ t. take n tables ++ t ∷ []) (sym is) in
+    let rest : map loads (range_with_len 0 (n + 1)) ≡ map loads (range_with_len 0 n) ++ loads n ∷ [] = map-range_with_len_more loads 0 n n count in
+    let long : length (take n tables) ≡ length (map loads (range_with_len 0 n)) = length-take-le n tables (omega (arith, lt)) ∙ sym (length-map-range_with_len loads 0 n) in
+    sym ((λ i. openings_from limits (front i) (rest i)) ∙ table_behind limits (take n tables) (map loads (range_with_len 0 n)) table (loads n) long)
+
+-- one row more, in the partition or not
+module _ (table : TableDef) (place : ℕ) (rows : List (List Value)) (i : ℕ) (row : List Value) (lt : i < length rows) (is : row ≡ get_or rows i row) where
+  row_passed : (b : Bool) → (part_of table (key_of table row) == place) ≡ b → rows_in_part table place (take (i + 1) rows) ≡ rows_in_part table place (take i rows) ++ cond b (row ∷ []) []
+  row_passed b test =
+      filter_more (λ r. part_of table (key_of table r) == place) rows i row lt ∙ ap (λ r. rows_in_part table place (take i rows) ++ cond (part_of table (key_of table r) == place) (r ∷ []) []) (sym is)
+      ∙ ap (λ t. rows_in_part table place (take i rows) ++ cond t (row ∷ []) []) test
+
+  pub row_here : (own more : List (List Value)) (part : ℕ) → own ≡ rows_in_part table place (take i rows) → part ≡ part_of table (key_of table row) → part ≡ place → more ≡ own ++ row ∷ [] → more ≡ rows_in_part table place (take (i + 1) rows)
+  row_here own more part so_far its here pushed =
+      let same : (part == place) ≡ true = grind (arith, nat_tests, here) in
+      pushed ∙ ap (λ o. o ++ row ∷ []) so_far ∙ sym (row_passed true (ap (λ p. p == place) (sym its) ∙ same))
+
+  pub row_elsewhere : (own more : List (List Value)) (part : ℕ) → own ≡ rows_in_part table place (take i rows) → part ≡ part_of table (key_of table row) → (part ≡ place → ⊥) → more ≡ own → more ≡ rows_in_part table place (take (i + 1) rows)
+  row_elsewhere own more part so_far its elsewhere still =
+      let other : (part == place) ≡ false = grind (arith, nat_tests, elsewhere) in
+      still ∙ so_far ∙ sym (row_passed false (ap (λ p. p == place) (sym its) ∙ other) ∙ append-nil (rows_in_part table place (take i rows)))

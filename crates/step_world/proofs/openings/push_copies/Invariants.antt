@@ -1,0 +1,6 @@
+use Rattle.std.proofs.Common.{◌≡◌, ◌++◌, take}
+use Rattle.step_world.proofs.openings.push_copies.Given as goal
+
+-- the copies so far
+abbrev pub invariant-loop-row : goal.invariant-loop-row
+invariant-loop-row l = l.rows ≡ l.fn.rows ++ take l.row-index l.more
