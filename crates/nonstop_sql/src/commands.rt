@@ -18,9 +18,7 @@ pub enum Command {
     /// To print what one thread answers that runs the sessions in number order.
     Oracle,
     /// To run the script step by step: each action is the one that a choice picks among those that are enabled.
-    Steps {
-        choices: List<u32>,
-    },
+    Steps { choices: List<u32> },
 }
 
 /// Why words are no command line.

@@ -82,6 +82,8 @@ fn main(rt: HostRuntime) -> ExitCode {
 }
 
 #[cfg(test)]
+mod run_rows;
+#[cfg(test)]
 mod run_tests;
 #[cfg(test)]
 mod tests;

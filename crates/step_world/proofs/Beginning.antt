@@ -96,8 +96,7 @@ module _ (script : Script) (choices : List ℕ) (told : List Telling) where
   first_told : (at : ℕ) (s : Seat Asking) → IsFirst script at s → IsTold told told at [] s
   first_told at s is first now f n =
       let same : first ≡ now = same_Some first now (sym f ∙ n) in
-      let none : sendings_so_far s ≡ [] = rw is.losses (rw is.waits refl) in
-      (
+      let none : sendings_so_far s ≡ [] = rw is.losses (rw is.waits refl) in (
         record { told = ap (λ t. t.first) (sym same); losses = sym (ap (λ log. sendings log ++ sendings_so_far s) is.new.log ∙ none) },
         ap (λ t. t.round) (sym same),
       )
@@ -118,12 +117,12 @@ module _ (script : Script) (choices : List ℕ) (told : List Telling) where
 
   process_at_first : (kept : RunRecord) (ways : List UnderWay) (part : ℕ) (p : State) (d : DiskProcess) → kept.acts ≡ [] → slice_get (openings script) part ≡ Some p → is_opened p d → IsProcess script kept ways part d
   process_at_first kept ways part p d none there is = subst (IsProcess script kept ways part) (sym is) (record {
-        opened = there;
-        replayed = record { legal = tt; replayed = refl };
-        unmarked = refl;
-        came = tt;
-        mail = subst (λ acts. AllZip (IsMessage (length script.sessions) kept ways part) (mail_after part acts) []) (sym none) tt;
-      })
+    opened = there;
+    replayed = record { legal = tt; replayed = refl };
+    unmarked = refl;
+    came = tt;
+    mail = subst (λ acts. AllZip (IsMessage (length script.sessions) kept ways part) (mail_after part acts) []) (sym none) tt;
+  })
 
   module _ {Q : Type 0} (asking : Q → Asking) (requesters : List Q) (seats : List (Seat Q)) (processes : List DiskProcess) (is : IsScript script) (new : AreNew asking script requesters) (seated : AreSeated requesters seats) (opened : AreOpened (openings script) processes) where
     abbrev w : Scene
