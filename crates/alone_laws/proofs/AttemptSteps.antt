@@ -1,6 +1,6 @@
 -- An attempt of the one session comes to what its transaction comes to in one thread.
 use Rattle.std.proofs.Common.{◌≡◌, ◌≤◌, ◌+◌, ℕ, List, [], ◌∷◌, ◌++◌, filter, Bool, true, false, Option, Some, None, inl, inr, refl, ap, sym, ◌∙◌, subst, arith}
-use Rattle.std.specs.Prelude.{◌⊎◌, option_map, slice_get, unwrap_or, if◌then◌else◌}
+use Rattle.std.specs.Prelude.{◌⊎◌, option_map, slice_get, unwrap_or}
 use Rattle.std.specs.List.{AllByRecursion}
 use Rattle.std.proofs.lemmas.List.Elements.{filter_map-append}
 use Rattle.sql_base.specs.Scripts.{IsScript}
@@ -28,7 +28,6 @@ use Rattle.session_grammar.specs.declared.logs.LogEntry.TheVariants.{Asked, Drew
 use Rattle.session_grammar.proofs.Readings.{AreAsked}
 use Rattle.record_laws.proofs.Attempts.{IsWork, parts-work}
 use Rattle.record_laws.proofs.LaneAttempts.{ends-asked, prepares-asked}
-use Rattle.serial_laws.proofs.Splits.{all_right}
 use Rattle.alone_laws.specs.Served.{Calm, Lively, served_by}
 use Rattle.alone_laws.specs.States.{AllCalm, AllLively, AllReply, AreOpen, IsFault, behind, views, world_of}
 use Rattle.alone_laws.proofs.AttemptEndings.{committed_at, floor_low, undone_at}
@@ -36,12 +35,8 @@ use Rattle.alone_laws.proofs.OneLive.{calm-lively}
 use Rattle.alone_laws.proofs.StatesBehind.{behind_nothing, came_from, reply_front, views_alike}
 use Rattle.alone_laws.proofs.StatementRuns.{RunsTo, statements_run}
 use Rattle.sql_base.specs.declared.outcomes.Given.{Given}
-
--- what was asked drew nothing
-drawn_asked : (es : List LogEntry) → AreAsked es → drawn_in es ≡ []
-drawn_asked [] h = refl
-drawn_asked (Asked part sync request losses answer ∷ es) h = drawn_asked es h.1
-drawn_asked (Drew name floor answer ∷ es) h = absurd h.0
+use Rattle.record_laws.proofs.Drawing.{drawn_none}
+use Rattle.sql_base.proofs.Lists.{all_right}
 
 work_asked : (ordinal : ℕ) (es : List LogEntry) → AllByRecursion (IsWork ordinal) es → AreAsked es
 work_asked ordinal [] h = tt
@@ -120,7 +115,7 @@ module _ (script : Script) (is : IsScript script) (a : Attempt) (attempt : IsAtt
     undone_drawn : drawn_in (entries_of a) ≡ []
     undone_drawn =
         filter_map-append drawn_by (joined a.parts) a.ending
-        ∙ (λ i. drawn_asked (joined a.parts) (work_asked a.ordinal (joined a.parts) works) i ++ drawn_asked a.ending (ends-asked a.ordinal EndUndo (touched r a) a.ending undo) i)
+        ∙ (λ i. drawn_none (joined a.parts) (work_asked a.ordinal (joined a.parts) works) i ++ drawn_none a.ending (ends-asked a.ordinal EndUndo (touched r a) a.ending undo) i)
 
   fails : (abort : Abort) → InTurn (IsPart r a.ordinal) a.work.statements a.parts (Some abort) → AreEnds a.ordinal EndUndo (touched r a) a.ending → a.outcome ≡ Aborted abort → Comes
   fails abort turns undo outcome =
@@ -154,11 +149,11 @@ module _ (script : Script) (is : IsScript script) (a : Attempt) (attempt : IsAtt
       drew : AllByRecursion (IsWork a.ordinal) (joined a.parts) → drawn_in (entries_of a) ≡ record { name = t; floor = greatest_of floors; stamp = stamp } ∷ []
       drew works =
           filter_map-append drawn_by (joined a.parts) a.ending
-          ∙ ap (λ l. l ++ drawn_in a.ending) (drawn_asked (joined a.parts) (work_asked a.ordinal (joined a.parts) works))
+          ∙ ap (λ l. l ++ drawn_in a.ending) (drawn_none (joined a.parts) (work_asked a.ordinal (joined a.parts) works))
           ∙ ap drawn_in ending_is
           ∙ filter_map-append drawn_by prepares (Drew t (greatest_of floors) (Stamp stamp) ∷ closing)
-          ∙ ap (λ l. l ++ drawn_in (Drew t (greatest_of floors) (Stamp stamp) ∷ closing)) (drawn_asked prepares (prepares-asked a.ordinal (touched r a) prepares floors are_prepares))
-          ∙ ap (λ l. record { name = t; floor = greatest_of floors; stamp = stamp } ∷ l) (drawn_asked closing (ends-asked a.ordinal (EndCommit stamp) (touched r a) closing are_ends))
+          ∙ ap (λ l. l ++ drawn_in (Drew t (greatest_of floors) (Stamp stamp) ∷ closing)) (drawn_none prepares (prepares-asked a.ordinal (touched r a) prepares floors are_prepares))
+          ∙ ap (λ l. record { name = t; floor = greatest_of floors; stamp = stamp } ∷ l) (drawn_none closing (ends-asked a.ordinal (EndCommit stamp) (touched r a) closing are_ends))
 
       kept_at : AllByRecursion (IsWork a.ordinal) (joined a.parts) → (k : ℕ) (q : State) → slice_get qs k ≡ Some q
           → Calm stamp (served_by q (filter (is_for k) (entries_of a))) × (records (served_by q (filter (is_for k) (entries_of a))).cells ≡ records (served_by q (filter (is_for k) (joined a.parts))).cells)

@@ -17,7 +17,6 @@ use Rattle.key_sequenced.specs.Cells.{Keyed, records}
 use Rattle.one_thread.specs.One.{one, one_on}
 use Rattle.partition_state.specs.State.{State}
 use Rattle.serial_laws.proofs.InLine.{PartsRise, in_turn-each, in_turn-theirs, single-own}
-use Rattle.serial_laws.proofs.Splits.{all_right}
 use Rattle.serial_passes.proofs.Givings.{none_for}
 use Rattle.serial_passes.proofs.Tables.{AllFrom, all_same, moved-from, moved-map, rows_of, step_of}
 use Rattle.session_grammar.specs.Follows.{AreTheirs, IsPart, IsSingle, asker, projection, InLineBy, WideBy}
@@ -30,8 +29,9 @@ use Rattle.alone_laws.specs.States.{AllLively, AllReply, AreOpen, ComesTo, behin
 use Rattle.alone_laws.proofs.SingleRequests.{lock_came}
 use Rattle.alone_laws.proofs.FailingLists.{Breaks, singles_own, turn_breaks}
 use Rattle.alone_laws.proofs.ScanSteps.{open_here, part_below, state_at, views_length, views_related}
-use Rattle.serial_passes.proofs.Splits.{find-contains, found_passes}
+use Rattle.serial_passes.proofs.Splits.{find-contains}
 use Rattle.alone_laws.proofs.ScanPlans.{plan_is}
+use Rattle.sql_base.proofs.Lists.{all_right, found_passes}
 
 -- a LOCK TABLE
 module _ (script : Script) (is : IsScript script) (n : ℕ) (mode : Mode) (table : TableDef) (at : slice_get script.tables n ≡ Some table)

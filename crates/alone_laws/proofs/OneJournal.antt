@@ -10,6 +10,7 @@ use Rattle.run_record.specs.Legal.{StampsDrawn, StampsOfLogRise, drawn_in}
 use Rattle.run_record.specs.Openings.{log_of}
 use Rattle.run_record.specs.declared.records.RunRecord.{RunRecord}
 use Rattle.serial_passes.proofs.Bases.{stamps_above}
+use Rattle.run_record.proofs.DrawnLogs.{drawn_by_logs}
 
 -- each stamp is below those behind it
 abbrev pub Rising : List Drawn → Type 0
@@ -77,7 +78,7 @@ pub journal_is : (kept : RunRecord) → StampsDrawn kept → length kept.logs �
 journal_is kept drawn one =
     same_rising (drawn_in (log_of kept 1)) kept.journal
     (log_rising (drawn_in (log_of kept 1)) (all_slice (λ log. StampsOfLogRise (drawn_in log)) [] tt kept.logs 0 drawn.in_order)) (journal_rising 0 kept.journal drawn.rise)
-    (λ d c. (drawn.drawn d).1 (1, c)) (λ d c. let h = (drawn.drawn d).0 c in of_log d h.0 h.1)
+    (λ d c. (drawn_by_logs kept drawn d).1 (1, c)) (λ d c. let h = (drawn_by_logs kept drawn d).0 c in of_log d h.0 h.1)
   where
     of_log : (d : Drawn) (session : ℕ) → Contains (drawn_in (log_of kept session)) d → Contains (drawn_in (log_of kept 1)) d
     of_log d zero c = subst (λ k. Contains (drawn_in (unwrap_or (slice_get kept.logs k) [])) d) (let e : 0 - 1 ≡ 0 = omega arith in e) c

@@ -30,12 +30,13 @@ use Rattle.partition_laws.proofs.Granules.{granule-high}
 use Rattle.partition_laws.proofs.Laying.{laid-is_seen}
 use Rattle.partition_laws.proofs.LiveLaws.{live-ended, live-others}
 use Rattle.partition_laws.proofs.Moving.{moved}
-use Rattle.partition_laws.proofs.Names.{same_txn-comm, same_txn-refl, same_txn-is}
+use Rattle.partition_laws.proofs.Names.{same_txn-comm}
 use Rattle.partition_laws.proofs.Stepped.{stepped}
 use Rattle.partition_laws.proofs.Steps.{Keeps-step}
 use Rattle.serial_laws.specs.Locked.{LockStands}
 use Rattle.serial_laws.proofs.Locked.{locked-step}
 use Rattle.alone_laws.specs.Served.{Calm, Lively}
+use Rattle.sql_base.proofs.RowFacts.{same_txn-is, same_txn-itself}
 
 one_lies : Lies 1 8 1
 one_lies = (omega arith, omega arith)
@@ -99,7 +100,7 @@ no_locked t base top q sync request lock own l told =
 -- where nobody is live, all records are committed
 no_lives : (lives : List Live) → ((u : TxnName) → lives_in lives u ≡ false) → lives ≡ []
 no_lives [] h = refl
-no_lives (l ∷ lives) h = absurd (false≢true (sym (h l.name) ∙ ap (λ b. b || lives_in lives l.name) (same_txn-refl l.name)))
+no_lives (l ∷ lives) h = absurd (false≢true (sym (h l.name) ∙ ap (λ b. b || lives_in lives l.name) (same_txn-itself l.name)))
 
 none_pending : (cells : List Cell) → AllByRecursion (λ cell. cell.writer ≡ None) cells → committed_in cells ≡ records cells
 none_pending [] h = refl

@@ -34,7 +34,6 @@ use Rattle.session_grammar.specs.declared.logs.LogEntry.{LogEntry}
 use Rattle.record_laws.proofs.FiveFacts.{as_many, within_tables}
 use Rattle.record_laws.proofs.Lists.{all_filter, all_slice}
 use Rattle.serial_laws.proofs.AtParts.{legal_at}
-use Rattle.serial_laws.proofs.Splits.{all_left, all_right}
 use Rattle.alone_laws.specs.Laws.{AloneIsOneThread}
 use Rattle.alone_laws.specs.Served.{Replies, served_by}
 use Rattle.alone_laws.specs.States.{AllCalm, AllReply, AreOpen, IsFault, behind, views, world_of}
@@ -43,6 +42,7 @@ use Rattle.alone_laws.proofs.HistoriesFollow.{Follows, all_one, follows_log, own
 use Rattle.alone_laws.proofs.OneJournal.{journal_is}
 use Rattle.alone_laws.proofs.OpenTables.{opened_calm, opened_open, opened_world}
 use Rattle.alone_laws.proofs.StatesBehind.{behind_nothing, behind_twice, open_behind, reply_behind, reply_front}
+use Rattle.sql_base.proofs.Lists.{all_left, all_right, zip_length}
 
 module _ (script : Script) (is : IsScript script) where
   -- what a session shows, and the tables behind it
@@ -175,13 +175,6 @@ module _ (script : Script) (is : IsScript script) where
           let own = own_attempt work ordinal a h in
           let suits_a = subst (λ (x : Work). AllByRecursion (IsStatement script.tables) x.statements) (sym h.of_work) suits.0 in
           absurd (not_locked a own suits_a (flat_map entries_of ((b ∷ tries) ++ rest)) top qs open_qs calm replies heard rise are_tries.1)
-
--- two lists of as many
-zip_length : {X Y : Type 0} (R : X → Y → Type 0) (xs : List X) (ys : List Y) → AllZip R xs ys → length xs ≡ length ys
-zip_length R [] [] h = refl
-zip_length R [] (y ∷ ys) h = absurd h
-zip_length R (x ∷ xs) [] h = absurd h
-zip_length R (x ∷ xs) (y ∷ ys) h = ap suc (zip_length R xs ys h.1)
 
 -- the states at the end are those that the histories lead to
 ends_alike : (ps : List State) (hs : List (List Entry)) (i : ℕ) (log : List LogEntry) → AllZip IsLegal ps hs → ((k : ℕ) (p : State) → slice_get ps k ≡ Some p → replay p (unwrap_or (slice_get hs k) []) ≡ served_by p (filter (is_for (i + k)) log))

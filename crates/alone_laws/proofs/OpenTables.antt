@@ -15,7 +15,7 @@ use Rattle.alone_laws.specs.States.{AllCalm, AreOpen, IsOpen, world_of}
 use Rattle.partition_laws.specs.Keeping.{lives_in}
 use Rattle.state_facts.proofs.Openings.{opened-fresh}
 use Rattle.run_record.proofs.EntryLists.{all_joined}
-use Rattle.serial_laws.proofs.Splits.{all_get}
+use Rattle.sql_base.proofs.Lists.{all_at}
 
 -- the tables as they open are those of the LOAD rows
 pub opened_world : (script : Script) → IsScript script → world_of script.tables (openings script) ≡ loaded script
@@ -50,5 +50,5 @@ low_opening limits (table ∷ tables) (rows ∷ loads) =
 pub opened_calm : (script : Script) → IsScript script → AllCalm 0 (openings script)
 opened_calm script is k q there =
     let fresh = opened-fresh script k q is there in
-    let low : q.high ≡ 0 = all_get (λ (x : State). x.high ≡ 0) (openings script) k q (low_opening script.limits script.tables (loaded script).records) there in
+    let low : q.high ≡ 0 = all_at (λ (x : State). x.high ≡ 0) (openings script) k q (low_opening script.limits script.tables (loaded script).records) there in
     record { keeps = fresh.keeps; unlive = λ u. ap (λ lives. lives_in lives u) fresh.unlive; top_is = omega arith }

@@ -40,7 +40,6 @@ use Rattle.quantum_core.specs.declared.verdicts.Effect.TheVariants.{Goes}
 use Rattle.quantum_core.specs.declared.works.Doing.TheVariants as doing
 use Rattle.quantum_core.specs.declared.works.SetWork.{SetWork}
 use Rattle.quantum_core.proofs.Walking.{as_judged}
-use Rattle.quantum_core.proofs.Windows.{all-filter}
 use Rattle.run_record.specs.Tiles.{statement_fault}
 use Rattle.session_grammar.specs.Plans.{filter_code}
 use Rattle.subset_blocks.specs.Blocks.{find_block}
@@ -57,6 +56,7 @@ use Rattle.serial_laws.proofs.Steps.{answered-kind, stepped, was_handled}
 use Rattle.serial_laws.proofs.Subsets.{begins-for, made, room_of}
 use Rattle.serial_passes.proofs.Edits.{within}
 use Rattle.alone_laws.specs.Failing.{Fails}
+use Rattle.sql_base.proofs.Lists.{all-filter}
 
 -- the first candidate of a block, which faults
 record FirstFaults (table : TableDef) (locks : List Lock) (block : Block SetWork) (cells : List Cell) (key : List ℕ) (fault : Fault) : Type 0 where

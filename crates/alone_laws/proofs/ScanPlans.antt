@@ -26,7 +26,6 @@ use Rattle.serial_laws.specs.Stages.{Fresh, RoomFor, begin_of}
 use Rattle.serial_laws.proofs.Finished.{PieceSent, range_is, sents-are, sents_from}
 use Rattle.serial_laws.proofs.InLine.{IsOwn, PartsRise, in_turn-each, in_turn-theirs, list-own, single-own, together-each}
 use Rattle.serial_laws.proofs.Rooms.{room-for}
-use Rattle.serial_laws.proofs.Splits.{all_get, all_left, all_right}
 use Rattle.serial_passes.specs.Did.{first_of}
 use Rattle.serial_passes.proofs.Givings.{part_within}
 use Rattle.serial_passes.proofs.PieceLaws.{pieces_law}
@@ -43,6 +42,7 @@ use Rattle.alone_laws.proofs.FailingLists.{AreOwn, Breaks, lists_own, singles_ow
 use Rattle.alone_laws.proofs.SubsetLists.{Came, list_came}
 use Rattle.alone_laws.proofs.ScanSteps.{SentCame, open_here, scan_done, scan_fails}
 use Rattle.sql_base.specs.declared.key_ranges.Start.TheVariants.{At}
+use Rattle.sql_base.proofs.Lists.{all_at, all_left, all_right}
 
 -- the plan of a statement of this table
 pub plan_is : (script : Script) (statement : Statement) (table : TableDef) → slice_get script.tables (table_of statement) ≡ Some table → plan_of (asker script 1) statement ≡ plan_on (asker script 1) table statement
@@ -57,7 +57,7 @@ module _ (script : Script) (is : IsScript script) (statement : Statement) (table
   Comes = SentCame script is statement table at qs open_qs
 
   room : RoomFor script.limits table statement
-  room = room-for script table statement is (all_get IsTable script.tables (table_of statement) table is.tables at) suits
+  room = room-for script table statement is (all_at IsTable script.tables (table_of statement) table is.tables at) suits
 
   here_at : (j : ℕ) (part : ℕ) (q : State) → j < length table.firsts + 1 → part ≡ first_of script statement + j → slice_get qs part ≡ Some q → IsOpen script table j q
   here_at j part q less same there = open_qs.here (table_of statement) j table q at less (subst (λ n. slice_get qs n ≡ Some q) same there)

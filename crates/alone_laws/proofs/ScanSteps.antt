@@ -35,8 +35,8 @@ use Rattle.serial_passes.specs.Pieces.{AreOf, IsOf, in_range}
 use Rattle.serial_passes.proofs.Blocks.{Ranged, given_by, ranged}
 use Rattle.serial_passes.proofs.Edits.{spans, within}
 use Rattle.serial_passes.proofs.Givings.{gives, none_for, elsewhere_none}
-use Rattle.serial_passes.proofs.Splits.{find-contains, found_passes}
-use Rattle.serial_passes.proofs.Steps.{all_to, filter-alike, law_at, none_ranged, ranged_of}
+use Rattle.serial_passes.proofs.Splits.{find-contains}
+use Rattle.serial_passes.proofs.Steps.{filter-alike, law_at, none_ranged, ranged_of}
 use Rattle.serial_passes.proofs.Sweeping.{Sweeps as Scans, sweep}
 use Rattle.serial_passes.proofs.Tables.{AllFrom, block_step, moved-from, moved-map, moved-tables, rows_of, step_of, Moved}
 use Rattle.session_grammar.specs.Follows.{AreTheirs, asker, projection}
@@ -51,6 +51,7 @@ use Rattle.alone_laws.proofs.FailingLists.{Breaks, find_at, find_front}
 use Rattle.alone_laws.proofs.TableFaults.{PartFails, RangeFails, parts_fail}
 use Rattle.alone_laws.proofs.SubsetLists.{Came, Sweeps, ascends}
 use Rattle.serial_laws.proofs.InLine.{PartsRise}
+use Rattle.sql_base.proofs.Lists.{all-weaker, found_passes}
 
 -- two lists of views, related partition by partition
 pub views_related : (R : ℕ → List Keyed → List Keyed → Type 0) (es : List LogEntry) (qs : List State) (i : ℕ)
@@ -148,7 +149,7 @@ module _ (script : Script) (is : IsScript script) (statement : Statement) (table
         → within (At low) high (records q.cells) ≡ ranged table statement (records q.cells)
     span_ranged j q low high are law =
         filter-alike (spans (At low) high) (in_range table statement) (records q.cells)
-        (all_to (IsOf table j) (λ k. spans (At low) high k.key ≡ in_range table statement k.key) (λ k h. law_at table j (λ key. spans (At low) high key ≡ in_range table statement key) law k h) (records q.cells) are)
+        (all-weaker (IsOf table j) (λ k. spans (At low) high k.key ≡ in_range table statement k.key) (λ k h. law_at table j (λ key. spans (At low) high key ≡ in_range table statement key) law k h) (records q.cells) are)
 
     -- a partition whose list is whole
     whole_ranged : (j : ℕ) (q : State) (o : Option Sent) → j < parts_here → slice_get qs (first + j) ≡ Some q → PieceLaw table statement j o
@@ -284,7 +285,7 @@ module _ (script : Script) (is : IsScript script) (statement : Statement) (table
           let here_law = subst (PieceLaw table statement j) found_sent (law j less) in
           let are = open_of script table j q o in
           record {
-            keyed = all_to (IsOf table j) (λ k. k.key ≡ key_of table k.row) (λ k h. h.0) (records q.cells) are;
+            keyed = all-weaker (IsOf table j) (λ k. k.key ≡ key_of table k.row) (λ k h. h.0) (records q.cells) are;
             front = f.front;
             first = f.first;
             back = f.back;
@@ -303,7 +304,7 @@ module _ (script : Script) (is : IsScript script) (statement : Statement) (table
           refl,
           λ j same less. let there_j : slice_get qs (first + j) ≡ Some q = subst (λ n. slice_get qs n ≡ Some q) (let is_k : k ≡ first + j = omega arith in is_k) there in
               record {
-                keyed = all_to (IsOf table j) (λ k. k.key ≡ key_of table k.row) (λ k h. h.0) (records q.cells) (open_of script table j q (own_open j q less there_j));
+                keyed = all-weaker (IsOf table j) (λ k. k.key ≡ key_of table k.row) (λ k h. h.0) (records q.cells) (open_of script table j q (own_open j q less there_j));
                 below = λ before. below_m j q less before there_j;
                 here = λ is_j. here_m j q key fault less is_j there_j is_fault;
               },

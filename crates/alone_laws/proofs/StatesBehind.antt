@@ -1,5 +1,5 @@
 -- All partitions behind some entries of the log.
-use Rattle.std.proofs.Common.{◌≡◌, ◌+◌, ℕ, zero, suc, List, [], ◌∷◌, ◌++◌, length, filter, take, false, Some, refl, ap, sym, ◌∙◌, subst, arith}
+use Rattle.std.proofs.Common.{◌≡◌, ◌+◌, ℕ, zero, suc, List, [], ◌∷◌, ◌++◌, length, filter, take, Some, refl, ap, sym, ◌∙◌, subst, arith}
 use Rattle.std.specs.Prelude.{slice_get}
 use Rattle.std.specs.List.{AllByRecursion}
 use Rattle.std.proofs.lemmas.List.Elements.{filter-append}
@@ -7,12 +7,10 @@ use Rattle.sql_base.specs.Scripts.{parts_of}
 use Rattle.sql_base.specs.declared.lock_names.TxnName.{TxnName}
 use Rattle.sql_base.specs.declared.scripts.Script.{Script}
 use Rattle.sql_base.specs.declared.tables.TableDef.{TableDef}
-use Rattle.dp_messages.specs.declared.requests.Ask.{Ask}
 use Rattle.dp_messages.specs.declared.requests.Ask.TheVariants as ask
 use Rattle.key_sequenced.specs.Cells.{Keyed, records}
-use Rattle.partition_state.specs.Commits.{is_commit}
 use Rattle.partition_state.specs.State.{State}
-use Rattle.partition_state.specs.Step.{is_closing, step}
+use Rattle.partition_state.specs.Step.{step}
 use Rattle.partition_laws.proofs.RowLaws.{fixed-step}
 use Rattle.serial_laws.proofs.Keeps.{sound-step}
 use Rattle.session_grammar.specs.Rows.{is_for}
@@ -25,6 +23,7 @@ use Rattle.alone_laws.specs.Served.{Lively, Replies, served_by}
 use Rattle.alone_laws.specs.States.{AllLively, AllReply, AreOpen, IsOpen, behind, views}
 use Rattle.alone_laws.proofs.HistoriesFollow.{replies-back, replies-front, served-append}
 use Rattle.alone_laws.proofs.OneLive.{lively-step}
+use Rattle.serial_passes.proofs.KeyCommits.{open_ask}
 
 -- one list of entries behind another
 pub behind_twice : (i : ℕ) (qs : List State) (xs ys : List LogEntry) → behind i (behind i qs xs) ys ≡ behind i qs (xs ++ ys)
@@ -86,16 +85,11 @@ reply_behind qs xs ys all k q there =
     subst (λ s. Replies s (filter (is_for k) ys)) (sym same)
     (replies-back c.before (filter (is_for k) xs) (filter (is_for k) ys) (subst (Replies c.before) (filter-append (is_for k) xs ys) (all k c.before c.there)))
 
--- work keeps it lively
-open_commit : (a : Ask) → is_closing a ≡ false → is_commit a ≡ false
-open_commit (ask.EndCommit stamp) h = h
-open_commit a h = refl
-
 pub lively_served : (t : TxnName) (ordinal : ℕ) → t ≡ record { session = 1; ordinal = ordinal } → (base : List Keyed) (top : ℕ) (es : List LogEntry) (q : State) → AllByRecursion (IsWork ordinal) es → Lively t base top q → Lively t base top (served_by q es)
 lively_served t ordinal own base top [] q work l = l
 lively_served t ordinal own base top (Asked part sync request losses (Reply r) ∷ es) q work l =
     let mine : t ≡ record { session = 1; ordinal = request.ordinal } = own ∙ (λ i. record { session = 1; ordinal = sym work.0.0 i }) in
-    lively_served t ordinal own base top es (step q 1 sync request).state work.1 (lively-step t base top q sync request mine (open_commit request.ask work.0.1) l)
+    lively_served t ordinal own base top es (step q 1 sync request).state work.1 (lively-step t base top q sync request mine (open_ask request.ask work.0.1) l)
 lively_served t ordinal own base top (Asked part sync request losses PathFailed ∷ es) q work l = lively_served t ordinal own base top es q work.1 l
 lively_served t ordinal own base top (Asked part sync request losses (Stamp stamp) ∷ es) q work l = lively_served t ordinal own base top es q work.1 l
 lively_served t ordinal own base top (Drew name floor answer ∷ es) q work l = absurd work.0

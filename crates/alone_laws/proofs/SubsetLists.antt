@@ -33,11 +33,11 @@ use Rattle.session_grammar.specs.declared.logs.Answer.{Answer}
 use Rattle.session_grammar.specs.declared.logs.Answer.TheVariants.{Reply, PathFailed, Stamp}
 use Rattle.session_grammar.specs.declared.logs.LogEntry.{LogEntry}
 use Rattle.session_grammar.specs.declared.logs.LogEntry.TheVariants.{Asked, Drew}
-use Rattle.run_record.specs.Tiles.{Cover, FaultFree, Interval, end_of, interval_from, interval_of, start_of, reply_changed, reply_rows}
+use Rattle.run_record.specs.Tiles.{Cover, FaultFree, Interval, end_of, interval_from, interval_of, reply_changed, reply_rows}
 use Rattle.run_record.proofs.EntryLists.{all_joined}
 use Rattle.serial_laws.specs.Exact.{IsSet}
 use Rattle.serial_laws.specs.Stages.{Stage, Fresh, Onward, Awaits, RoomFor, ask_at, start_at}
-use Rattle.serial_laws.proofs.Chains.{Here, cover-more, here-step, interval_is}
+use Rattle.serial_laws.proofs.Chains.{Here, cover-more, here-step, interval_is, start_is}
 use Rattle.serial_laws.proofs.QuantumExact.{IsExact}
 use Rattle.serial_laws.proofs.Subsets.{SubsetTells, subset-step}
 use Rattle.serial_passes.proofs.Changing.{Ascend-rows_by, cells_ascend}
@@ -106,14 +106,6 @@ fits_ask (Insert t row) granule range Fresh r set = absurd set
 fits_ask (LockTable t m) granule range Fresh r set = absurd set
 fits_ask statement granule range (Onward subset last) r set = refl
 
-starts_at : (statement : Statement) (granule : List ℕ) (range : KeyRange) (stage : Stage) → IsSet statement → start_of (ask_at statement granule range stage) ≡ Some (start_at range stage)
-starts_at (Select t columns predicate access) granule range Fresh set = refl
-starts_at (Update t sets predicate access) granule range Fresh set = refl
-starts_at (Delete t predicate access) granule range Fresh set = refl
-starts_at (Insert t row) granule range Fresh set = absurd set
-starts_at (LockTable t m) granule range Fresh set = absurd set
-starts_at statement granule range (Onward subset last) set = refl
-
 open_ask : (statement : Statement) (granule : List ℕ) (range : KeyRange) (stage : Stage) → IsSet statement → is_commit (ask_at statement granule range stage) ≡ false
 open_ask (Select t columns predicate access) granule range Fresh set = refl
 open_ask (Update t sets predicate access) granule range Fresh set = refl
@@ -177,7 +169,7 @@ module _ (r : Asker) (ordinal part : ℕ) (t : TxnName) (own : t ≡ record { se
     Behind x = Came table statement (start_at range stage) range.high (records p.cells) (entry x ∷ joined rows) (records (served_by next (joined rows)).cells) end
 
     is_interval : (x : PartitionReply) → interval_of range.high (entry x) ≡ interval_from (Some (start_at range stage)) (end_of range.high x)
-    is_interval x = interval_is range.high part sync losses (ask_here stage) x (start_at range stage) (starts_at statement granule range stage set)
+    is_interval x = interval_is range.high part sync losses (ask_here stage) x (start_at range stage) (start_is statement granule range stage set)
 
     by_reply : (x : PartitionReply) → fits_subset x ≡ true → ((lock : Lock) → x ≡ reply.Locked lock → ⊥) → (step p 1 sync (ask_here stage)).reply ≡ Some x
         → SubsetTells table statement t stage (start_at range stage) range.high p.cells x next.cells next.blocks

@@ -4,12 +4,12 @@
 ghost use Rattle.std.specs.Prelude.{◌≡◌, ◌<◌, ◌^◌, length, map, All, IfOk};
 ghost use Rattle.std.specs.List.{AllByRecursion};
 ghost use Rattle.sql_base.specs.Kinds.{Kind, OfTruth, IsExpr};
-ghost use Rattle.sql_base.specs.OnRows.{first_failing};
+ghost use Rattle.sql_base.specs.OnRows.{first_failing, judged};
 ghost use Rattle.sql_base.specs.Rows.{IsRow};
 ghost use Rattle.sql_base.specs.Val.{val};
 ghost use Rattle.sql_base.specs.declared.tables.TableDef.{TableDef};
 ghost use Rattle.predicate_runner.specs.Outlines.{Checked};
-ghost use Rattle.constraint_checks.specs.Judging.{AreChecks, IsCheck, judged, tree_of};
+ghost use Rattle.constraint_checks.specs.Judging.{AreChecks, IsCheck, tree_of};
 
 use predicate_runner::{CodeFault, Item, Verified, compile, run, verify};
 use sql_base::{EvalFault, Expr, Fault, List, NoMemory, Row, TableDef};
@@ -39,7 +39,7 @@ fn compile_check(alloc: Global, check: &Expr, table: &TableDef) -> Result<Verifi
     }
 }
 
-/// The fault of the first CHECK that faults or is false. CHECKs count from 1.
+/// The fault of the first CHECK that faults or isn't true. CHECKs count from 1.
 pub fn first_failing(checks: &List<Verified>, row: &Row) -> Option<Fault>
     requires few { length checks.now < 2 ^ 32 }
     requires checks { (table : TableDef) × IsRow table row.now × All (λ check. IsExpr table OfTruth check.tree) checks.now }
@@ -55,21 +55,16 @@ pub fn first_failing(checks: &List<Verified>, row: &Row) -> Option<Fault>
     None
 }
 
-// The fault of the CHECK of this number, where it faults or is false.
+// The fault of the CHECK of this number, where it faults or isn't true.
 fn judge(check: &Verified, row: &Row, number: u32) -> Option<Fault>
     requires { (table : TableDef) × (kind : Kind) × IsExpr table kind check.now.tree × IsRow table row.now }
     ensures { result ≡ judged number (val check.now.tree row.now) }
 {
     match run(check, row) {
-        Ok(Item::Truth(truth)) => {
-            if truth {
-                None
-            } else {
-                Some(Fault::CheckFailed { number })
-            }
-        }
-        Ok(Item::Number(_number)) => None,
-        Ok(Item::Text(_text)) => None,
+        Ok(Item::Truth(true)) => None,
+        Ok(Item::Truth(false)) => Some(Fault::CheckFailed { number }),
+        Ok(Item::Number(_number)) => Some(Fault::CheckFailed { number }),
+        Ok(Item::Text(_text)) => Some(Fault::CheckFailed { number }),
         Err(EvalFault::Overflow) => Some(Fault::Overflow),
         Err(EvalFault::ZeroDivide) => Some(Fault::ZeroDivide),
     }

@@ -15,9 +15,7 @@ use Rattle.run_record.specs.Legal.{AreServed, IsServed}
 use Rattle.record_laws.proofs.Lists.{all_at, all_both, all_weaker}
 use Rattle.record_laws.proofs.Served.{served_all}
 use Rattle.driver_laws.specs.Gathering.{Climbs, HasEntry, IsAskedIn, IsOver, ServedBySentences, SyncsClimb}
-
-further : {X : Type 0} (x y : X) (xs : List X) → Contains xs y → Contains (x ∷ xs) y
-further x y xs h = (suc h.0, omega (arith, h.1), h.2)
+use Rattle.sql_base.proofs.Lists.{Contains-further}
 
 -- what is in a list is its first, or behind it
 first_or_behind : {X : Type 0} (x y : X) (xs : List X) → Contains (x ∷ xs) y → (x ≡ y) ⊎ Contains xs y
@@ -121,7 +119,7 @@ module _ (part : ℕ) where
   -- and the other way round: what was served was asked, and what was replied stands there
   all_in : (zs : List LogEntry) → AllByRecursion (λ z. is_for part z ≡ true) zs → AllByRecursion (λ z. Contains zs z × (is_for part z ≡ true)) zs
   all_in [] h = tt
-  all_in (z ∷ zs) h = (((zero, omega arith, refl), h.0), all_weaker (λ x. Contains zs x × (is_for part x ≡ true)) (λ x. Contains (z ∷ zs) x × (is_for part x ≡ true)) (λ x c. (further z x zs c.0, c.1)) zs (all_in zs h.1))
+  all_in (z ∷ zs) h = (((zero, omega arith, refl), h.0), all_weaker (λ x. Contains zs x × (is_for part x ≡ true)) (λ x. Contains (z ∷ zs) x × (is_for part x ≡ true)) (λ x c. (Contains-further z x zs c.0, c.1)) zs (all_in zs h.1))
 
   pub was_asked : (zs : List LogEntry) (es : List Entry) → AllByRecursion (λ z. is_for part z ≡ true) zs → AreServed zs es → AllByRecursion (IsAskedIn part zs) es
   was_asked zs es here h = served_all (λ z. Contains zs z × (is_for part z ≡ true)) (IsAskedIn part zs) of zs es (all_in zs here) h
@@ -133,7 +131,7 @@ module _ (part : ℕ) where
           (l, w, subst (Contains zs) same c.0)
 
   has_more : (e : Entry) (es : List Entry) (z : LogEntry) → HasEntry es z → HasEntry (e ∷ es) z
-  has_more e es (Asked p s q l (Reply r)) h = (h.0, further e h.0 es h.1, h.2, h.3)
+  has_more e es (Asked p s q l (Reply r)) h = (h.0, Contains-further e h.0 es h.1, h.2, h.3)
   has_more e es (Asked p s q l PathFailed) h = tt
   has_more e es (Asked p s q l (Stamp stamp)) h = absurd h
   has_more e es (Drew n f w) h = tt

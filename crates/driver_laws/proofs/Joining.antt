@@ -27,7 +27,8 @@ use Rattle.session_grammar.specs.UnderWay.{Sending, Awaiting, Drawing, UnderWay,
 use Rattle.driver_laws.proofs.Gathering.{gathered}
 use Rattle.driver_laws.proofs.Journals.{stamps_gathered}
 use Rattle.driver_laws.proofs.Seats.{contains_filter}
-use Rattle.driver_laws.proofs.Serving.{all_places, asked_rises}
+use Rattle.driver_laws.proofs.Serving.{asked_rises}
+use Rattle.sql_base.proofs.Lists.{all_places}
 
 -- of one opener
 abbrev SyncsRise : List Entry → Type 0

@@ -25,7 +25,8 @@ use Rattle.record_laws.proofs.Drawing.{Later, Rising, drawn-append, drawn_rising
 use Rattle.record_laws.proofs.Lists.{all_at, all_filter, all_passed, all_weaker}
 use Rattle.driver_laws.specs.Gathering.{JournalGathered}
 use Rattle.driver_laws.proofs.Seats.{contains_filter}
-use Rattle.driver_laws.proofs.Serving.{all_places}
+use Rattle.run_record.proofs.DrawnLogs.{of_logs}
+use Rattle.sql_base.proofs.Lists.{all_places}
 
 abbrev is_of : ℕ → Drawn → Bool
 is_of session d = d.name.session == session
@@ -149,7 +150,7 @@ stamps_gathered script kept ways is logs g =
     record {
       rise = g.rise;
       once = names_differ (length script.sessions) kept.journal g.named (λ s ls. subst Rising (g.own s ls) (log_rising script s (log_of kept s) (way_of ways s) (logs.each s ls).1));
-      drawn = λ d. (to_log d, λ at. to_journal d at.0 at.1);
+      drawn = of_logs kept (λ d. (to_log d, λ at. to_journal d at.0 at.1));
       in_order = all_places (λ (log : List LogEntry). StampsOfLogRise (drawn_in log)) kept.logs in_one;
     }
   where

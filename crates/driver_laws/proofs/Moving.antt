@@ -34,6 +34,7 @@ use Rattle.driver_laws.proofs.Seats.{all_set, all_zip_set, contains_filter, leng
 use Rattle.driver_laws.proofs.Serving.{IsEarlier, asked_rises, legal_more, new_later, serves_new}
 use Rattle.driver_laws.proofs.Stamping.{below_new, log_more, once_more, rise_more}
 use Rattle.driver_laws.proofs.Taking.{IsAmong, taken_served}
+use Rattle.run_record.proofs.DrawnLogs.{drawn_by_logs, of_logs}
 
 -- another log of one session, and another journal
 abbrev moved_to : RunRecord → ℕ → List LogEntry → List Drawn → RunRecord
@@ -76,10 +77,10 @@ stamps_still kept session log within same h =
     record {
       rise = h.rise;
       once = h.once;
-      drawn = λ d. (
-        λ x. let at = (h.drawn d).0 x in (at.0, subst (λ (ds : List Drawn). Contains ds d) (sym (same_drawn kept session log kept.journal within same at.0)) at.1),
-        λ at. (h.drawn d).1 (at.0, subst (λ (ds : List Drawn). Contains ds d) (same_drawn kept session log kept.journal within same at.0) at.1),
-      );
+      drawn = of_logs (with_log kept session log) (λ d. (
+        λ x. let at = (drawn_by_logs kept h d).0 x in (at.0, subst (λ (ds : List Drawn). Contains ds d) (sym (same_drawn kept session log kept.journal within same at.0)) at.1),
+        λ at. (drawn_by_logs kept h d).1 (at.0, subst (λ (ds : List Drawn). Contains ds d) (same_drawn kept session log kept.journal within same at.0) at.1),
+      ));
       in_order = all_set (λ (l : List LogEntry). StampsOfLogRise (drawn_in l)) kept.logs (session - 1) log
           (subst StampsOfLogRise (sym same) (all_slice (λ (l : List LogEntry). StampsOfLogRise (drawn_in l)) [] tt kept.logs (session - 1) h.in_order)) h.in_order;
     }
@@ -91,13 +92,13 @@ stamps_more kept session log d within more is new h =
     record {
       rise = rise_more 0 kept.journal d h.rise is;
       once = once_more kept.journal d h.once new;
-      drawn = λ x. (to_log x, to_journal x);
+      drawn = of_logs (with_drawn (with_log kept session log) d) (λ x. (to_log x, to_journal x));
       in_order = all_set (λ (l : List LogEntry). StampsOfLogRise (drawn_in l)) kept.logs (session - 1) log (subst StampsOfLogRise (sym more) own_rise) h.in_order;
     }
   where
     to_log : (x : Drawn) → Contains (kept.journal ++ d ∷ []) x → (s : ℕ) × Contains (drawn_in (log_of (moved_to kept session log (kept.journal ++ d ∷ [])) s)) x
     to_log x c = elim (Contains-push_cases kept.journal d x c) [
-      | inl old ↦ let at = (h.drawn x).0 old in (at.0, still_drawn kept session log (kept.journal ++ d ∷ []) within d more at.0 x at.1)
+      | inl old ↦ let at = (drawn_by_logs kept h x).0 old in (at.0, still_drawn kept session log (kept.journal ++ d ∷ []) within d more at.0 x at.1)
       | inr same ↦ (
         session,
         subst (λ (ds : List Drawn). Contains ds x) (sym (ap drawn_in (own_log kept session log (kept.journal ++ d ∷ []) within session refl) ∙ more))
@@ -107,14 +108,14 @@ stamps_more kept session log d within more is new h =
 
     to_journal : (x : Drawn) → (s : ℕ) × Contains (drawn_in (log_of (moved_to kept session log (kept.journal ++ d ∷ [])) s)) x → Contains (kept.journal ++ d ∷ []) x
     to_journal x at = elim (one_drawn kept session log (kept.journal ++ d ∷ []) within d more at.0 x at.1) [
-      | inl old ↦ Contains-append_left kept.journal (d ∷ []) x ((h.drawn x).1 (at.0, old))
+      | inl old ↦ Contains-append_left kept.journal (d ∷ []) x ((drawn_by_logs kept h x).1 (at.0, old))
       | inr same ↦ subst (λ y. Contains (kept.journal ++ d ∷ []) y) same (Contains-push kept.journal d)
     ]
 
     own_rise : StampsOfLogRise (drawn_in (log_of kept session) ++ d ∷ [])
     own_rise =
         log_more (drawn_in (log_of kept session)) d (all_slice (λ (l : List LogEntry). StampsOfLogRise (drawn_in l)) [] tt kept.logs (session - 1) h.in_order)
-        (λ x is_in. below_new kept.journal d h.rise is x ((h.drawn x).1 (session, is_in)))
+        (λ x is_in. below_new kept.journal d h.rise is x ((drawn_by_logs kept h x).1 (session, is_in)))
 
 module _ (script : Script) (kept : RunRecord) (ways : List UnderWay) (legal : LegalSoFar script kept ways) (many : length ways ≡ length script.sessions)
     (session : ℕ) (lies : Lies 1 (length script.sessions) session) where

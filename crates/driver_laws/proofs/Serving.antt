@@ -28,6 +28,7 @@ use Rattle.record_laws.proofs.Lists.{all_at, all_filter, all_joined, all_through
 use Rattle.record_laws.proofs.Served.{served_all, served_split}
 use Rattle.driver_laws.specs.Gathering.{Climbs, IsOver}
 use Rattle.driver_laws.proofs.Openings.{none_or_one, open_for, the_open}
+use Rattle.sql_base.proofs.Lists.{all_places, slice_get-last}
 
 -- what was asked has this sync or a later one
 abbrev pub NotBelow : ℕ → LogEntry → Type 0
@@ -198,21 +199,13 @@ pub legal_more : (p : State) (history : List Entry) (e : Entry) → IsLegal p hi
 legal_more p [] e legal lies told = (lies, told, tt)
 legal_more p (f ∷ history) e legal lies told = (legal.0, legal.1, legal_more (step p f.opener f.sync f.request).state history e legal.2 lies told)
 
-at_end : {X : Type 0} (xs : List X) (x : X) → slice_get (xs ++ x ∷ []) (length xs) ≡ Some x
-at_end [] x = refl
-at_end (y ∷ xs) x = at_end xs x
-
 at_front : {X : Type 0} (xs ys : List X) (i : ℕ) (x : X) → slice_get xs i ≡ Some x → (i < length xs) × (slice_get (xs ++ ys) i ≡ Some x)
 at_front [] ys i x is = absurd (cc is)
 at_front (y ∷ xs) ys zero x is = (omega arith, is)
 at_front (y ∷ xs) ys (suc i) x is = let r = at_front xs ys i x is in (omega (arith, r.0), r.1)
 
-pub all_places : {X : Type 0} (P : X → Type 0) (xs : List X) → ((i : ℕ) (x : X) → slice_get xs i ≡ Some x → P x) → AllByRecursion P xs
-all_places P [] to = tt
-all_places P (x ∷ xs) to = (to zero x refl, all_places P xs (λ i y at. to (suc i) y at))
-
 -- what is new is later than all that the opener had served before
 pub new_later : (p : State) (history : List Entry) (e : Entry) → Keeps p → IsLegal p (history ++ e ∷ []) → AllByRecursion (λ f. f.opener ≡ e.opener → f.sync < e.sync) history
 new_later p history e keeps legal =
     all_places (λ (f : Entry). f.opener ≡ e.opener → f.sync < e.sync) history
-    (λ i f at same. let r = at_front history (e ∷ []) i f at in syncs_rise p (history ++ e ∷ []) i (length history) f e keeps legal r.1 (at_end history e) r.0 same)
+    (λ i f at same. let r = at_front history (e ∷ []) i f at in syncs_rise p (history ++ e ∷ []) i (length history) f e keeps legal r.1 (slice_get-last history e) r.0 same)

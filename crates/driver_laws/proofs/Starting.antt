@@ -25,6 +25,7 @@ use Rattle.session_grammar.specs.UnderWay.{Sending, Awaiting, UnderWay, unanswer
 use Rattle.driver_laws.proofs.Moving.{served, taken}
 use Rattle.driver_laws.proofs.Openings.{still_served}
 use Rattle.driver_laws.proofs.Seats.{seat_same}
+use Rattle.run_record.proofs.DrawnLogs.{of_logs}
 
 abbrev nil : (Y : Type 0) → List Y
 nil Y = []
@@ -51,7 +52,7 @@ begun script ways is asks =
       stamps_drawn = record {
         rise = tt;
         once = refl;
-        drawn = λ d. (λ h. absurd (omega (arith, h.1)), λ h. none d h.0 h.1);
+        drawn = of_logs (nothing_yet script) (λ d. (λ h. absurd (omega (arith, h.1)), λ h. none d h.0 h.1));
         in_order = all_nil (λ (log : List LogEntry). StampsOfLogRise (drawn_in log)) script.sessions tt;
       };
       entries_asked = record { openers = all_nil (λ (history : List Entry). AllByRecursion (λ (e : Entry). Lies 1 (length script.sessions) e.opener) history) (openings script) tt; served = λ part session within lies. at part session };

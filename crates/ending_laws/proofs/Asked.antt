@@ -16,7 +16,7 @@ use Rattle.session_grammar.specs.declared.logs.LogEntry.TheVariants.{Asked, Drew
 use Rattle.session_grammar.specs.Follows.{AreEnds, ArePrepares, Attempt, InTurn, IsEnding, IsPart, Reads, entries_of, joined, touched}
 use Rattle.session_grammar.specs.Plans.{Asker, plan_of}
 use Rattle.session_grammar.specs.Rows.{IsAsked, IsRow}
-use Rattle.session_grammar.specs.UnderWay.{Awaiting, Drawing, IsAnswered, IsWith, Merges, Sending, UnderWay, unanswered}
+use Rattle.session_grammar.specs.UnderWay.{Awaiting, Drawing, IsAnswered, IsWith, Sending, UnderWay, unanswered}
 use Rattle.session_grammar.specs.declared.plans.Sent.{Sent}
 use Rattle.run_record.specs.Tiles.{sents_of}
 use Rattle.record_laws.proofs.Attempts.{IsOwn, attempts_counted}
@@ -24,12 +24,7 @@ use Rattle.record_laws.proofs.Completing.{merged_first}
 use Rattle.record_laws.proofs.Lists.{all_back, all_front, all_joined}
 use Rattle.record_laws.proofs.Parts.{part-all, turns-all}
 use Rattle.record_laws.proofs.Suiting.{attempts_of}
-
--- what holds of a merged list holds of the second of the two
-merged-second : {A : Type 0} (P : A → Type 0) (xs ys zs : List A) → Merges xs ys zs → AllByRecursion P zs → AllByRecursion P ys
-merged-second P xs ys [] h all = subst (AllByRecursion P) (sym h.1) tt
-merged-second P xs ys (z ∷ zs) (inl h) all = merged-second P h.0 ys zs h.2 all.1
-merged-second P xs ys (z ∷ zs) (inr h) all = subst (AllByRecursion P) (sym h.1) (all.0, merged-second P xs h.0 zs h.2 all.1)
+use Rattle.record_laws.proofs.Counting.{merged_second}
 
 module _ (S : ℕ → Ask → Type 0) where
   abbrev pub IsSo : LogEntry → Type 0
@@ -52,7 +47,7 @@ module _ (S : ℕ → Ask → Type 0) where
       let front = all_front IsSo filled.front filled.back parts in
       let back = all_back IsSo filled.front filled.back parts in
       let tail = merged_first IsSo filled.tail filled.answered filled.back filled.merged back in
-      let answered = merged-second IsSo filled.tail filled.answered filled.back filled.merged back in
+      let answered = merged_second IsSo filled.tail filled.answered filled.back filled.merged back in
       all_joined IsSo log (unanswered (Awaiting sends)) (subst (AllByRecursion IsSo) (sym filled.log_is) (all_joined IsSo filled.front filled.tail front tail)) (sends-so sends filled.answered filled.answers answered)
   asked-so (Drawing name floor) log whole drawn all =
       all_joined IsSo log [] (all_front IsSo log (Drew name floor (Stamp drawn.0) ∷ []) (subst (AllByRecursion IsSo) drawn.1 all)) tt

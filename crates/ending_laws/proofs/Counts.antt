@@ -4,8 +4,9 @@ use Rattle.std.specs.Prelude.{Contains}
 use Rattle.std.proofs.lemmas.Bool.{false≢true}
 use Rattle.std.proofs.lemmas.List.Sums.{count_by-le-length, sum_by-cons}
 use Rattle.sql_base.specs.Keys.{key_lt}
-use Rattle.sql_base.proofs.KeyOrders.{key_le-refl, lt-trans, not_lt_from_le}
+use Rattle.sql_base.proofs.KeyOrders.{lt-trans}
 use Rattle.ending_laws.specs.Keys.{above}
+use Rattle.sql_base.proofs.Orderings.{key_lt-itself}
 
 abbrev one : Bool → ℕ
 one b = cond b 1 0
@@ -23,10 +24,6 @@ one-less true false f = absurd (false≢true (f refl))
 one-less false true f = omega arith
 one-less false false f = omega arith
 
--- no key is above itself
-none-own : (key : List ℕ) → key_lt key key ≡ false
-none-own key = not_lt_from_le key key (key_le-refl key)
-
 pub few-above : (keys : List (List ℕ)) (key : List ℕ) → above keys key ≤ length keys
 few-above keys key = count_by-le-length (key_lt key) keys
 
@@ -41,7 +38,7 @@ no-more-above low high (k ∷ keys) lt =
 fewer-from : (low high : List ℕ) (keys : List (List ℕ)) (i : ℕ) → key_lt low high ≡ true → i < length keys → get_or keys i high ≡ high → above keys high < above keys low
 fewer-from low high [] i lt within is = absurd (omega (arith, within))
 fewer-from low high (k ∷ keys) zero lt within is =
-    let own : one (key_lt high k) ≡ 0 = ap one (ap (key_lt high) is ∙ none-own high) in
+    let own : one (key_lt high k) ≡ 0 = ap one (ap (key_lt high) is ∙ key_lt-itself high) in
     let other : one (key_lt low k) ≡ 1 = ap one (ap (key_lt low) is ∙ lt) in
     omega (arith, own, other, no-more-above low high keys lt, above-more high k keys, above-more low k keys)
 fewer-from low high (k ∷ keys) (suc i) lt within is =
@@ -55,7 +52,7 @@ fewer-above keys low high lt is_in = fewer-from low high keys is_in.0 lt is_in.1
 not-all-from : (key : List ℕ) (keys : List (List ℕ)) (i : ℕ) → i < length keys → get_or keys i key ≡ key → above keys key < length keys
 not-all-from key [] i within is = absurd (omega (arith, within))
 not-all-from key (k ∷ keys) zero within is =
-    let own : one (key_lt key k) ≡ 0 = ap one (ap (key_lt key) is ∙ none-own key) in
+    let own : one (key_lt key k) ≡ 0 = ap one (ap (key_lt key) is ∙ key_lt-itself key) in
     omega (arith, own, few-above keys key, above-more key k keys)
 not-all-from key (k ∷ keys) (suc i) within is = omega (arith, one-few (key_lt key k), not-all-from key keys i (omega (arith, within)) is, above-more key k keys)
 

@@ -21,7 +21,7 @@ use Rattle.range_finder.specs.Range.{range}
 use Rattle.dp_messages.specs.declared.requests.Ask.{Ask}
 use Rattle.dp_messages.specs.declared.requests.Ask.TheVariants as ask
 use Rattle.partition_state.specs.State.{State}
-use Rattle.partition_laws.proofs.Lists.{all-each, all-map, some-same}
+use Rattle.partition_laws.proofs.Lists.{all-each, all-map}
 use Rattle.session_grammar.specs.Follows.{asker}
 use Rattle.session_grammar.specs.Plans.{all_columns, begins, begins_in, filter_code, first_part, plan_of, plan_on, select_plan}
 use Rattle.session_grammar.specs.declared.plans.Plan.TheVariants.{Singles, Subsets}
@@ -33,6 +33,7 @@ use Rattle.plans_laws.proofs.Opened.{opens-here}
 use Rattle.serial_laws.proofs.Rooms.{packed-back}
 use Rattle.ending_laws.specs.Keys.{inserted_keys, keys_in}
 use Rattle.ending_laws.proofs.CellKeys.{IsGood}
+use Rattle.sql_base.proofs.Truths.{some-same}
 
 module _ (P : List ℕ → Type 0) (script : Script) (session part : ℕ) (p : State) (opens : slice_get (openings script) part ≡ Some p) where
   -- what is asked of this partition inserts only such keys

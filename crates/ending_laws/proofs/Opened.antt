@@ -15,9 +15,9 @@ use Rattle.partition_map.specs.Map.{part_of}
 use Rattle.partition_laws.proofs.Lists.{all-each, all-map}
 use Rattle.record_laws.proofs.Lists.{all_filter, all_joined}
 use Rattle.run_record.specs.Openings.{openings, openings_from, rows_in_part}
-use Rattle.plans_laws.proofs.Opened.{all_at}
 use Rattle.ending_laws.specs.Keys.{keys_in, loaded_keys}
 use Rattle.ending_laws.proofs.CellKeys.{KeysAre}
+use Rattle.sql_base.proofs.Lists.{all_at}
 
 module _ (P : List ℕ → Type 0) (script : Script) (all : AllByRecursion (λ (load : Load). AllByRecursion P (loaded_keys script.tables load)) script.loads) where
   abbrev HasRowKey : TableDef → List Value → Type 0

@@ -1,6 +1,6 @@
 -- The key columns of a table, one after the other.
 use Rattle.std.proofs.Common.{◌≡◌, ◌<◌, ◌≤◌, ℕ, ◌+◌, zero, suc, List, [], ◌∷◌, ◌++◌, length, drop, get_or, map, All, Bool, true, false, Some, None, Option, refl, ap, sym, ◌∙◌, arith}
-use Rattle.std.specs.Prelude.{filter_map, option_map, replicate, slice_get, sum_by, unwrap_or, if◌then◌else◌}
+use Rattle.std.specs.Prelude.{filter_map, option_map, replicate, slice_get, sum_by, unwrap_or}
 use Rattle.std.specs.List.{cons_option}
 use Rattle.std.proofs.lemmas.List.{append-nil, append_assoc, drop_more, drop_all, length-map}
 use Rattle.std.proofs.lemmas.List.Sums.{sum_by-cons}
@@ -13,11 +13,7 @@ use Rattle.sql_base.specs.declared.tables.TableDef.{TableDef}
 use Rattle.range_finder.specs.Range.{Bound, Interval, KeyColumn, filled, interval, key_columns, range_over, usable}
 use Rattle.key_ranges.specs.Spans.{behind, in_front, span_left, with_kind}
 use Rattle.key_ranges.specs.declared.spans.Span.{Span}
-
-none-there : {A : Type 0} (xs : List A) (i : ℕ) → slice_get xs i ≡ None → i < length xs → ⊥
-none-there [] i e lt = omega arith
-none-there (x ∷ xs) zero e lt = cc
-none-there (x ∷ xs) (suc i) e lt = none-there xs i e (omega arith)
+use Rattle.sql_base.proofs.Lists.{none-there}
 
 abbrev columns_at : List ColumnKind → List ℕ → List KeyColumn
 columns_at ks places = filter_map (λ c. option_map (λ kind. record { place = c; kind = kind }) (slice_get ks c)) places

@@ -1,10 +1,10 @@
 -- How many cells stand before a place.
 use Rattle.std.proofs.Common.{◌≡◌, ℕ, zero, suc, ◌+◌, ◌<◌, ◌≤◌, List, [], ◌∷◌, length, not, Bool, true, false, cond, Option, Some, None, slice_index_or, refl, ap, sym, ◌∙◌, arith}
-use Rattle.std.specs.Prelude.{find, slice_get, if◌then◌else◌}
+use Rattle.std.specs.Prelude.{find, slice_get}
 use Rattle.std.specs.List.{prefix_len}
 use Rattle.std.specs.List.Sorted.{IsPartitionPoint, IsPartitionedBy}
 use Rattle.std.specs.Cmp.Lexicographic.{slice_cmp}
-use Rattle.std.specs.Ordering.{is_lt, nat_cmp, ordering_reverse}
+use Rattle.std.specs.Ordering.{nat_cmp, ordering_reverse}
 use Rattle.std.specs.declared.cmp.Ordering.{Ordering}
 use Rattle.std.specs.declared.cmp.Ordering.TheVariants.{Less, Equal, Greater}
 use Rattle.std.proofs.lemmas.Bool.{false≢true}
@@ -16,6 +16,8 @@ use Rattle.key_sequenced.specs.Cells.{AreCells, find_cell}
 use Rattle.key_sequenced.specs.Files.{is_key_of}
 use Rattle.key_sequenced.specs.declared.Cell.{Cell}
 use Rattle.sql_base.proofs.KeyOrders.{key_le-not_lt, lt-trans}
+use Rattle.sql_base.proofs.Truths.{plus-one}
+use Rattle.sql_base.proofs.Orderings.{less-is}
 
 pub cells-rest : (c : Cell) (cells : List Cell) → AreCells (c ∷ cells) → AreCells cells
 cells-rest c [] h = tt
@@ -61,15 +63,6 @@ pub first-after : (last : List ℕ) (cells : List Cell) → find (λ c. key_lt l
 first-after last cells =
     find_at (λ c. key_lt last c.key) cells
     ∙ ap (slice_get cells) (prefix-same (λ c. not (key_lt last c.key)) (λ c. key_le c.key last) (λ c. sym (key_le-not_lt c.key last)) cells)
-
-pub plus-one : (n : ℕ) → 1 + n ≡ suc n
-plus-one n = omega arith
-
--- no cell behind one above the key has it
-less-is : (o : Ordering) → is_lt o ≡ true → o ≡ Less
-less-is Less h = refl
-less-is Equal h = absurd (false≢true h)
-less-is Greater h = absurd (false≢true h)
 
 above-too : (key a b : List ℕ) → key_lt a b ≡ true → slice_cmp nat_cmp a key ≡ Greater → slice_cmp nat_cmp b key ≡ Greater
 above-too key a b h e =

@@ -14,7 +14,9 @@ use Rattle.sql_base.specs.declared.values.Value.{Value}
 use Rattle.key_sequenced.specs.Cells.{AreCells, find_cell, inserted, rewritten}
 use Rattle.key_sequenced.specs.Files.{is_key_of, with_cell, rewritten_at}
 use Rattle.key_sequenced.specs.declared.Cell.{Cell}
-use Rattle.key_sequenced.proofs.Counts.{cells-rest, none-above, plus-one}
+use Rattle.key_sequenced.proofs.Counts.{cells-rest, none-above}
+use Rattle.sql_base.proofs.Orderings.{less-is}
+use Rattle.sql_base.proofs.Truths.{plus-one}
 
 abbrev pub below : List ℕ → List Cell → ℕ
 below key cells = prefix_len (λ c. key_lt c.key key) cells
@@ -111,12 +113,6 @@ none-mapped t key now (c ∷ cells) h = at (key_eq c.key key) h (λ k. none-mapp
     at : (b : Bool) → cond b (Some c) (find_cell key cells) ≡ None → (find_cell key cells ≡ None → map (change_of t key now) cells ≡ cells) → cond b (rewritten t now c) c ∷ map (change_of t key now) cells ≡ c ∷ cells
     at true h rest = absurd (cc)
     at false h rest = ap (λ cs. c ∷ cs) (rest h)
-
--- no cell behind the one of the key has it
-less-is : (o : Ordering) → is_lt o ≡ true → o ≡ Less
-less-is Less h = refl
-less-is Equal h = absurd (false≢true h)
-less-is Greater h = absurd (false≢true h)
 
 none-behind : (key : List ℕ) (c : Cell) (cells : List Cell) → AreCells (c ∷ cells) → slice_cmp nat_cmp c.key key ≡ Equal → find_cell key cells ≡ None
 none-behind key c [] h e = refl

@@ -3,9 +3,7 @@ use Rattle.std.proofs.Common.{◌≡◌, ℕ, List, [], ◌∷◌, Bool, true, f
 use Rattle.std.specs.Prelude.{filter_map}
 use Rattle.std.specs.List.{cons_option}
 use Rattle.std.specs.Cmp.Lexicographic.{slice_cmp}
-use Rattle.std.specs.Ordering.{is_eq, is_lt, nat_cmp, ordering_reverse}
-use Rattle.std.specs.declared.cmp.Ordering.{Ordering}
-use Rattle.std.specs.declared.cmp.Ordering.TheVariants.{Less, Equal, Greater}
+use Rattle.std.specs.Ordering.{is_eq, nat_cmp}
 use Rattle.std.proofs.lemmas.Bool.{false≢true, cond_both}
 use Rattle.std.proofs.lemmas.Cmp.{nat_list_cmp_total, tied_back}
 use Rattle.sql_base.specs.Keys.{key_lt, key_eq, Rise}
@@ -16,6 +14,7 @@ use Rattle.key_sequenced.specs.Cells.{AreCells, ending, find_cell, inserted, rew
 use Rattle.key_sequenced.specs.Files.{with_cell, rewritten_at}
 use Rattle.key_sequenced.specs.declared.Cell.{Cell}
 use Rattle.key_sequenced.proofs.Counts.{cells-rest, cells-without}
+use Rattle.sql_base.proofs.Orderings.{equal-is, key_lt-other}
 
 abbrev IsBelow : List ℕ → List Cell → Type 0
 IsBelow key [] = Unit {0}
@@ -68,15 +67,6 @@ keys-rewritten t key now (c ∷ cells) =
 pub rise-rewritten : (t : TxnName) (key : List ℕ) (now : Option (List Value)) (cells : List Cell) → AreCells cells → AreCells (rewritten_at t key now cells)
 rise-rewritten t key now cells h = subst Rise (sym (keys-rewritten t key now cells)) h
 
--- neither below nor equal
-above : (o : Ordering) → is_lt o ≡ false → is_eq o ≡ false → is_lt (ordering_reverse o) ≡ true
-above Less h k = absurd (false≢true (sym h))
-above Equal h k = absurd (false≢true (sym k))
-above Greater h k = refl
-
-is-above : (a b : List ℕ) → key_lt a b ≡ false → key_eq a b ≡ false → key_lt b a ≡ true
-is-above a b h k = ap is_lt (nat_list_cmp_total.antisymm b a) ∙ above (slice_cmp nat_cmp a b) h k
-
 below-inserted : (t : TxnName) (key : List ℕ) (row : List Value) (a : List ℕ) (cells : List Cell) → IsBelow a cells → key_lt a key ≡ true → IsBelow a (inserted t key row cells)
 below-inserted t key row a [] h k = k
 below-inserted t key row a (c ∷ cells) h k =
@@ -89,23 +79,18 @@ rise-inserted t key row (c ∷ cells) h =
     let rest = rise-inserted t key row cells (cells-rest c cells h) in
     cond_both (key_lt key c.key) _ _ AreCells (λ e. (e, h))
     (λ e. cond_both (key_eq key c.key) (rewritten t (Some row) c ∷ cells) (c ∷ inserted t key row cells) AreCells (λ _. h)
-    (λ k. cells-cons c (inserted t key row cells) (below-inserted t key row c.key cells (cells-first c cells h) (is-above key c.key e k)) rest))
+    (λ k. cells-cons c (inserted t key row cells) (below-inserted t key row c.key cells (cells-first c cells h) (key_lt-other key c.key e k)) rest))
 
 below-laid : (cell : Cell) (a : List ℕ) (cells : List Cell) → IsBelow a cells → key_lt a cell.key ≡ true → IsBelow a (with_cell cell cells)
 below-laid cell a [] h k = k
 below-laid cell a (c ∷ cells) h k = cond_both (key_lt cell.key c.key) (cell ∷ c ∷ cells) (c ∷ with_cell cell cells) (IsBelow a) (λ _. k) (λ _. h)
-
-eq-level : (o : Ordering) → is_eq o ≡ true → o ≡ Equal
-eq-level Less h = absurd (false≢true h)
-eq-level Equal h = refl
-eq-level Greater h = absurd (false≢true h)
 
 not-eq : (a b : List ℕ) → key_eq b a ≡ false → key_eq a b ≡ false
 not-eq a b h = at (key_eq a b) refl
   where
     at : (v : Bool) → key_eq a b ≡ v → v ≡ false
     at false e = refl
-    at true e = absurd (false≢true (sym h ∙ ap is_eq (tied_back nat_list_cmp_total a b (eq-level (slice_cmp nat_cmp a b) e))))
+    at true e = absurd (false≢true (sym h ∙ ap is_eq (tied_back nat_list_cmp_total a b (equal-is (slice_cmp nat_cmp a b) e))))
 
 free-parts : (c : Cell) (o : Option Cell) (b : Bool) → cond b (Some c) o ≡ None → (b ≡ false) × (o ≡ None)
 free-parts c o true h = absurd (cc)
@@ -117,4 +102,4 @@ rise-laid cell (c ∷ cells) free h =
     let parts = free-parts c (find_cell cell.key cells) (key_eq c.key cell.key) free in
     let rest = rise-laid cell cells parts.1 (cells-rest c cells h) in
     cond_both (key_lt cell.key c.key) (cell ∷ c ∷ cells) (c ∷ with_cell cell cells) AreCells (λ e. (e, h))
-    (λ e. cells-cons c (with_cell cell cells) (below-laid cell c.key cells (cells-first c cells h) (is-above cell.key c.key e (not-eq cell.key c.key parts.0))) rest)
+    (λ e. cells-cons c (with_cell cell cells) (below-laid cell c.key cells (cells-first c cells h) (key_lt-other cell.key c.key e (not-eq cell.key c.key parts.0))) rest)

@@ -26,6 +26,7 @@ use Rattle.one_thread.specs.declared.cells.Cell.{Cell}
 use Rattle.one_thread.specs.declared.scans.Fate.{Fate}
 use Rattle.one_thread.specs.declared.scans.Fate.TheVariants.{Stays}
 use Rattle.one_thread.proofs.Sweeps.{sooner-is}
+use Rattle.sql_base.proofs.Truths.{cond-alike}
 
 -- ---- one row that doesn't fail
 
@@ -80,10 +81,6 @@ shown-is columns p row (Ok IsNothing) e = rw e refl
 
 -- ---- the records of cells
 
-alike : {A : Type 0} (b : Bool) (x : A) → cond b x x ≡ x
-alike true x = refl
-alike false x = refl
-
 or_none : (a b : Option Abort) → or_later a b ≡ None → (a ≡ None) × (b ≡ None)
 or_none None b e = (refl, e)
 or_none (Some x) b e = absurd cc
@@ -102,7 +99,7 @@ module _ (table : TableDef) (s : Statement) where
     abort_step : (key : List ℕ) (rest : Records) (o : Option (List Value)) (later : Option Abort) → IfSome o (IsKeyed table key) → fault_in table s rest ≡ later
         → fault_in table s (cons_option o rest) ≡ or_later (cond (is_in (range table (predicate_of s)) key) (f key o) None) later
     abort_step key rest None later is e =
-        e ∙ sym (ap (λ a. or_later (cond (is_in (range table (predicate_of s)) key) a None) later) (nothing key) ∙ ap (λ a. or_later a later) (alike (is_in (range table (predicate_of s)) key) None))
+        e ∙ sym (ap (λ a. or_later (cond (is_in (range table (predicate_of s)) key) a None) later) (nothing key) ∙ ap (λ a. or_later a later) (cond-alike (is_in (range table (predicate_of s)) key) None))
     abort_step key rest (Some row) later is e =
         let b = is_in (range table (predicate_of s)) in
         let at = cond (b (key_of table row)) (option_map (Faulted (key_of table row)) (statement_fault table s row)) None in

@@ -27,8 +27,8 @@ use Rattle.one_thread.specs.declared.cells.Cell.{Cell}
 use Rattle.one_thread.proofs.Changed.{records_abort, records_changed, records_read}
 use Rattle.one_thread.proofs.Fates.{kept_all, scans_are_one}
 use Rattle.one_thread.proofs.Keeping.{alike_both, alike_changed, alike_keys, alike_same, now_changed, restorable, Alike}
-use Rattle.one_thread.proofs.Parts.{all_both, all_left, all_right}
 use Rattle.one_thread.proofs.Sweeps.{change_fault, read_fault, window_abort, window_filter, window_map, window_values}
+use Rattle.sql_base.proofs.Lists.{all_both, all_left, all_right}
 
 is_scan : (s : Statement) → Changing s → IsScan s
 is_scan (Update t sets predicate access) h = tt

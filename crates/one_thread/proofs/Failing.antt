@@ -3,55 +3,32 @@ use Rattle.std.proofs.Common.{◌≡◌, ◌<◌, ℕ, ◌+◌, List, [], ◌∷
 use Rattle.std.specs.List.{list_any}
 use Rattle.std.specs.Option.{is_some}
 use Rattle.std.proofs.lemmas.List.{drop_more}
-use Rattle.sql_base.specs.OnRows.{failing_from}
+use Rattle.sql_base.specs.OnRows.{failing_from, judged, or_later}
 use Rattle.sql_base.specs.Val.{Outcome, IsNumber, IsText, IsTruth, IsNothing, val}
 use Rattle.sql_base.specs.declared.expressions.Expr.{Expr}
 use Rattle.sql_base.specs.declared.faults.Fault.{Fault}
 use Rattle.sql_base.specs.declared.values.Value.{Value}
-use Rattle.one_thread.specs.Values.{failing}
 
 -- the element at a place, and those behind it
 pub at_drop : {A : Type 0} (xs : List A) (i : ℕ) (x : A) → i < length xs → x ≡ get_or xs i x → drop i xs ≡ x ∷ drop (i + 1) xs
 at_drop xs i x within is = drop_more xs i x within ∙ ap (λ y. y ∷ drop (i + 1) xs) (sym is)
 
-abbrev pub or_later : Option Fault → Option Fault → Option Fault
-or_later (Some fault) later = Some fault
-or_later None later = later
-
-by_outcome : (number : ℕ) (check : Expr) (checks : List Expr) (row : List Value) (o : Outcome) → val check row ≡ o → failing_from number (check ∷ checks) row ≡ or_later (failing number o) (failing_from (number + 1) checks row)
-by_outcome number check checks row (Err f) e = rw e refl
-by_outcome number check checks row (Ok (IsTruth false)) e = rw e refl
-by_outcome number check checks row (Ok (IsTruth true)) e = rw e refl
-by_outcome number check checks row (Ok (IsNumber n)) e = rw e refl
-by_outcome number check checks row (Ok (IsText text)) e = rw e refl
-by_outcome number check checks row (Ok IsNothing) e = rw e refl
-
-pub or_later-some : (fault later : Option Fault) → is_some fault ≡ true → or_later fault later ≡ fault
-or_later-some (Some f) later e = refl
-or_later-some None later e = absurd (cc)
-
-pub or_later-none : (fault later : Option Fault) → is_some fault ≡ false → or_later fault later ≡ later
-or_later-none None later e = refl
-or_later-none (Some f) later e = absurd (cc)
-
 -- the CHECK at a place, and those behind it
 pub at_place : (checks : List Expr) (i : ℕ) (check : Expr) (row : List Value) → i < length checks → check ≡ get_or checks i check
-    → failing_from (i + 1) (drop i checks) row ≡ or_later (failing (i + 1) (val check row)) (failing_from (i + 1 + 1) (drop (i + 1) checks) row)
+    → failing_from (i + 1) (drop i checks) row ≡ or_later (judged (i + 1) (val check row)) (failing_from (i + 1 + 1) (drop (i + 1) checks) row)
 at_place checks i check row within is =
     ap (λ (xs : List Expr). failing_from (i + 1) xs row) (at_drop checks i check within is)
-    ∙ by_outcome (i + 1) check (drop (i + 1) checks) row (val check row) refl
 
-one_more : (number : ℕ) (o : Outcome) (rest : Bool) (later : Option Fault) → rest ≡ is_some later → (is_some (failing 1 o) || rest) ≡ is_some (or_later (failing number o) later)
+one_more : (number : ℕ) (o : Outcome) (rest : Bool) (later : Option Fault) → rest ≡ is_some later → (is_some (judged 1 o) || rest) ≡ is_some (or_later (judged number o) later)
 one_more number (Err f) rest later e = refl
 one_more number (Ok (IsTruth false)) rest later e = refl
 one_more number (Ok (IsTruth true)) rest later e = e
-one_more number (Ok (IsNumber n)) rest later e = e
-one_more number (Ok (IsText text)) rest later e = e
-one_more number (Ok IsNothing) rest later e = e
+one_more number (Ok (IsNumber n)) rest later e = refl
+one_more number (Ok (IsText text)) rest later e = refl
+one_more number (Ok IsNothing) rest later e = refl
 
 -- a CHECK fails just where there is a first one that does
-pub any-first : (number : ℕ) (checks : List Expr) (row : List Value) → list_any (λ check. is_some (failing 1 (val check row))) checks ≡ is_some (failing_from number checks row)
+pub any-first : (number : ℕ) (checks : List Expr) (row : List Value) → list_any (λ check. is_some (judged 1 (val check row))) checks ≡ is_some (failing_from number checks row)
 any-first number [] row = refl
 any-first number (check ∷ checks) row =
-    one_more number (val check row) (list_any (λ check. is_some (failing 1 (val check row))) checks) (failing_from (number + 1) checks row) (any-first (number + 1) checks row)
-    ∙ ap is_some (sym (by_outcome number check checks row (val check row) refl))
+    one_more number (val check row) (list_any (λ check. is_some (judged 1 (val check row))) checks) (failing_from (number + 1) checks row) (any-first (number + 1) checks row)

@@ -1,6 +1,6 @@
 -- SELECT, UPDATE and DELETE are one case.
 use Rattle.std.proofs.Common.{◌≡◌, List, [], ◌∷◌, length, map, Bool, true, false, not, cond, Option, Some, None, refl, ap, sym, ◌∙◌}
-use Rattle.std.specs.Prelude.{count_by, filter, option_map, if◌then◌else◌, Ok}
+use Rattle.std.specs.Prelude.{count_by, filter, option_map, Ok}
 use Rattle.std.specs.List.{cons_option, filter_map}
 use Rattle.std.proofs.lemmas.List.Sums.{length-filter}
 use Rattle.sql_base.specs.OnRows.{updated}
@@ -18,6 +18,7 @@ use Rattle.sql_base.specs.declared.tables.TableDef.{TableDef}
 use Rattle.sql_base.specs.declared.values.Value.{Value}
 use Rattle.range_finder.specs.Range.{is_in, range}
 use Rattle.one_thread.specs.One.{done_unless, fault_on, first_fault, new_row_fault, row_after, selects, sooner, statement_fault, Records, ScansAreOne}
+use Rattle.sql_base.proofs.Truths.{cond-alike}
 
 -- the fault of the first row of a range that faults
 module _ (table : TableDef) (predicate : Option Expr) (met : List Value → Option Fault) (fault : List Value → Option Fault) (same : (row : List Value) → fault row ≡ fault_on (filter_val predicate row) (met row)) where
@@ -39,16 +40,12 @@ module _ (table : TableDef) (predicate : Option Expr) (met : List Value → Opti
   faults (row ∷ rows) =
       by row rows (is_in (range table predicate) (key_of table row)) (fault row) refl (sym (same row)) (faults rows)
 
-alike : {A : Type 0} (b : Bool) (x : A) → cond b x x ≡ x
-alike true x = refl
-alike false x = refl
-
 -- ---- what becomes of the rows
 
 module _ (p : List Value → Bool) where
   pub kept_all : (rows : Records) → filter_map (λ row. cond (p row) (Some row) (Some row)) rows ≡ rows
   kept_all [] = refl
-  kept_all (row ∷ rows) = ap (λ o. cons_option o (filter_map (λ r. cond (p r) (Some r) (Some r)) rows)) (alike (p row) (Some row)) ∙ ap (λ rs. row ∷ rs) (kept_all rows)
+  kept_all (row ∷ rows) = ap (λ o. cons_option o (filter_map (λ r. cond (p r) (Some r) (Some r)) rows)) (cond-alike (p row) (Some row)) ∙ ap (λ rs. row ∷ rs) (kept_all rows)
 
   mapped : (f : List Value → List Value) (rows : Records) → map (λ row. cond (p row) (f row) row) rows ≡ filter_map (λ row. cond (p row) (Some (f row)) (Some row)) rows
   mapped f [] = refl

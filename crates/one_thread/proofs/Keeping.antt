@@ -1,12 +1,11 @@
 -- A change keeps keys and what stood before the transaction.
-use Rattle.std.proofs.Common.{◌≡◌, ℕ, zero, suc, List, [], ◌∷◌, ◌++◌, map, Bool, true, false, eqb, Option, Some, None, refl, ap, sym, ◌∙◌, subst}
+use Rattle.std.proofs.Common.{◌≡◌, ℕ, List, [], ◌∷◌, ◌++◌, map, Bool, true, false, Option, Some, None, refl, ap, sym, ◌∙◌, subst}
 use Rattle.std.specs.Prelude.{nat_eq, slice_get, slice_set, option_map, unwrap_or, Result, Ok, Err, IfSome}
 use Rattle.std.specs.List.{AllByRecursion, cons_option, list_any}
-use Rattle.std.proofs.lemmas.Bool.{eqb-false, or_parts}
 use Rattle.std.proofs.lemmas.List.{length-set}
 use Rattle.sql_base.specs.Keys.{Rise}
 use Rattle.sql_base.specs.OnRows.{assigned, first_failing, stored, then_with, updated}
-use Rattle.sql_base.specs.Rows.{chosen, key_kinds, key_values, kinds, padded, width}
+use Rattle.sql_base.specs.Rows.{key_kinds, key_values, kinds, padded, width}
 use Rattle.sql_base.specs.Tables.{IsAssign, SuitsTable}
 use Rattle.sql_base.specs.Val.{filter_val, val, Item, Outcome, IsNumber, IsText, IsTruth, IsNothing}
 use Rattle.sql_base.specs.declared.faults.EvalFault.{EvalFault}
@@ -27,21 +26,9 @@ use Rattle.one_thread.specs.declared.cells.Cell.{Cell}
 use Rattle.one_thread.specs.declared.scans.Fate.{Fate}
 use Rattle.one_thread.specs.declared.scans.Fate.TheVariants.{Stays, Becomes, Fails}
 use Rattle.one_thread.proofs.Rising.{keys}
+use Rattle.sql_base.proofs.RowFacts.{chosen_others}
 
 -- ---- keys of updated rows
-
-get_other : (row : List Value) (c d : ℕ) (v : Value) → (c ≡ d → ⊥) → slice_get (slice_set row c v) d ≡ slice_get row d
-get_other [] c d v h = refl
-get_other (x ∷ row) zero zero v h = absurd (h refl)
-get_other (x ∷ row) zero (suc d) v h = refl
-get_other (x ∷ row) (suc c) zero v h = refl
-get_other (x ∷ row) (suc c) (suc d) v h = get_other row c d v (λ e. h (ap suc e))
-
-chosen_others : (places : List ℕ) (row : List Value) (c : ℕ) (v : Value) → list_any (nat_eq c) places ≡ false → chosen places (slice_set row c v) ≡ chosen places row
-chosen_others [] row c v h = refl
-chosen_others (d ∷ places) row c v h =
-    let parts = or_parts (eqb c d) (list_any (nat_eq c) places) h in
-    ap (λ o. cons_option o (chosen places (slice_set row c v))) (get_other row c d v (λ e. eqb-false c d parts.0 e)) ∙ ap (cons_option (slice_get row d)) (chosen_others places row c v parts.1)
 
 set_keeps : (table : TableDef) (key : List ℕ) (row : List Value) (c : ℕ) (v : Value) → list_any (nat_eq c) table.key ≡ false → IsKeyed table key row → IsKeyed table key (slice_set row c v)
 set_keeps table key row c v other is = (ap (key_values (key_kinds table)) (chosen_others table.key row c v other) ∙ is.0, length-set row c v ∙ is.1)

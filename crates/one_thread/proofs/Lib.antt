@@ -2,7 +2,6 @@ pub mod Lines
 pub mod Tables
 pub mod Numbers
 mod WorkedRows
-pub mod Comparing
 pub mod Failing
 pub mod Written
 pub mod Rising

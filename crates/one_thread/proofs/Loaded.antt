@@ -3,7 +3,6 @@ use Rattle.std.proofs.Common.{◌≡◌, ◌<◌, ◌+◌, ℕ, zero, suc, List,
 use Rattle.std.specs.Prelude.{nat_eq, slice_get, ◌==◌, IfSome}
 use Rattle.std.specs.List.{AllByRecursion, list_any, range_with_len}
 use Rattle.std.proofs.lemmas.Bool.{and_parts, eqb-true, or_parts}
-use Rattle.std.proofs.lemmas.Bool.Decides.{nat_tests}
 use Rattle.std.proofs.lemmas.List.{append-nil}
 use Rattle.sql_base.specs.Keys.{Rise}
 use Rattle.sql_base.specs.Rows.{key_of, AreRecords, IsRow}
@@ -20,22 +19,16 @@ use Rattle.one_thread.specs.Worlds.{AreAll}
 use Rattle.one_thread.specs.declared.cells.Cell.{Cell}
 use Rattle.one_thread.proofs.Rising.{keys}
 use Rattle.one_thread.proofs.Spots.{row-length}
+use Rattle.sql_base.proofs.Truths.{eqb-swapped, not-true}
 
 -- ---- the LOAD rows
 
-swapped : (m n : ℕ) → eqb m n ≡ false → eqb n m ≡ false
-swapped m n h = grind (arith, nat_tests)
-
-not-true : (b : Bool) → not b ≡ true → b ≡ false
-not-true true h = absurd cc
-not-true false h = refl
-
 -- the rows of no LOAD
-no_load : (loads : List Load) (n : ℕ) → list_any (nat_eq n) (map (λ load. load.table) loads) ≡ false → load_rows loads n ≡ []
+pub no_load : (loads : List Load) (n : ℕ) → list_any (nat_eq n) (map (λ load. load.table) loads) ≡ false → load_rows loads n ≡ []
 no_load [] n h = refl
 no_load (load ∷ loads) n h =
     let parts = or_parts (eqb n load.table) (list_any (nat_eq n) (map (λ l. l.table) loads)) h in
-    rw (swapped n load.table parts.0) (no_load loads n parts.1)
+    rw (eqb-swapped n load.table parts.0) (no_load loads n parts.1)
 
 load_by : (tables : List TableDef) (load : Load) (loads : List Load) (n : ℕ) (table : TableDef) (b : Bool) → (load.table == n) ≡ b → slice_get tables n ≡ Some table → IsLoad tables load
     → list_any (nat_eq load.table) (map (λ l. l.table) loads) ≡ false → AreRecords table (load_rows loads n) → AreRecords table ((cond b load.rows []) ++ load_rows loads n)

@@ -15,6 +15,7 @@ use Rattle.one_thread.specs.Statements.{Does, Restorable}
 use Rattle.one_thread.specs.Worlds.{world_of, AreAll, Keeps, Moves, Settled}
 use Rattle.one_thread.specs.declared.cells.Cell.{Cell}
 use Rattle.one_thread.proofs.Rising.{keys}
+use Rattle.sql_base.proofs.Lists.{map_set}
 
 -- ---- tables at a place
 
@@ -29,11 +30,6 @@ all_set row_of [] world t table new are at is = absurd cc
 all_set row_of (x ∷ tables) [] t table new are at is = absurd are
 all_set row_of (x ∷ tables) (cells ∷ world) zero table new are at is = let same : x ≡ table = cc in (subst (λ y. AreCells y row_of new) (sym same) is, are.1)
 all_set row_of (x ∷ tables) (cells ∷ world) (suc t) table new are at is = (are.0, all_set row_of tables world t table new are.1 at is)
-
-map_set : {A B : Type 0} (f : A → B) (xs : List A) (i : ℕ) (x : A) → map f (slice_set xs i x) ≡ slice_set (map f xs) i (f x)
-map_set f [] i x = refl
-map_set f (y ∷ ys) zero x = refl
-map_set f (y ∷ ys) (suc i) x = ap (λ zs. f y ∷ zs) (map_set f ys i x)
 
 map_get : {A B : Type 0} (f : A → B) (xs : List A) (i : ℕ) (d : A) → i < length xs → slice_get (map f xs) i ≡ Some (f (get_or xs i d))
 map_get f [] i d lt = absurd (omega arith)

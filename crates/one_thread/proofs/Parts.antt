@@ -2,21 +2,20 @@
 use Rattle.std.proofs.Common.{◌≡◌, ℕ, zero, suc, ◌<◌, ◌≤◌, List, [], ◌∷◌, ◌++◌, length, take, drop, get_or, Bool, true, false, ◌||◌, Option, Some, None, refl, ap, sym, ◌∙◌, subst, arith}
 use Rattle.std.specs.Prelude.{slice_set, IfSome}
 use Rattle.std.specs.List.{AllByRecursion, cons_option, filter_map, insert, list_any}
-use Rattle.std.specs.Ordering.{is_eq, is_lt, nat_cmp}
-use Rattle.std.specs.Cmp.Lexicographic.{slice_cmp}
+use Rattle.std.specs.Ordering.{is_eq, is_lt}
 use Rattle.std.specs.declared.cmp.Ordering.{Ordering}
 use Rattle.std.specs.declared.cmp.Ordering.TheVariants.{Less, Equal, Greater}
 use Rattle.std.proofs.lemmas.Bool.{false≢true}
-use Rattle.std.proofs.lemmas.Map.Lookups.{exact_bytes}
 use Rattle.sql_base.specs.Keys.{key_eq, key_lt, Rise}
 use Rattle.sql_base.specs.Rows.{key_of}
 use Rattle.sql_base.specs.declared.tables.TableDef.{TableDef}
 use Rattle.sql_base.specs.declared.values.Value.{Value}
-use Rattle.sql_base.proofs.KeyOrders.{key_eq-refl, le_from_lt, lt-trans, lt_from_not_le, not_lt_from_le}
+use Rattle.sql_base.proofs.KeyOrders.{key_eq-refl, lt-trans}
 use Rattle.one_thread.specs.One.{placed}
 use Rattle.one_thread.specs.Cells.{IsKeyed}
 use Rattle.one_thread.specs.declared.cells.Cell.{Cell}
 use Rattle.one_thread.proofs.Rising.{keys, rise-rest}
+use Rattle.sql_base.proofs.Orderings.{key_gt-differs, key_lt-back, key_lt-differs, key_lt-other}
 
 -- ---- facts of all elements
 
@@ -36,18 +35,6 @@ all_drop P [] (suc i) h = tt
 all_drop P (x ∷ xs) zero h = all_of P (x ∷ xs) (λ k d lt. h k d (omega arith) lt)
 all_drop P (x ∷ xs) (suc i) h = all_drop P xs i (λ k d le lt. h (suc k) d (omega arith) (omega arith))
 
-pub all_both : {X : Type 0} (P : X → Type 0) (xs ys : List X) → AllByRecursion P xs → AllByRecursion P ys → AllByRecursion P (xs ++ ys)
-all_both P [] ys h k = k
-all_both P (x ∷ xs) ys h k = (h.0, all_both P xs ys h.1 k)
-
-pub all_left : {X : Type 0} (P : X → Type 0) (xs ys : List X) → AllByRecursion P (xs ++ ys) → AllByRecursion P xs
-all_left P [] ys h = tt
-all_left P (x ∷ xs) ys h = (h.0, all_left P xs ys h.1)
-
-pub all_right : {X : Type 0} (P : X → Type 0) (xs ys : List X) → AllByRecursion P (xs ++ ys) → AllByRecursion P ys
-all_right P [] ys h = h
-all_right P (x ∷ xs) ys h = all_right P xs ys h.1
-
 -- ---- a list at a place
 
 pub parts_at : {X : Type 0} (xs : List X) (i : ℕ) (d : X) → i < length xs → take i xs ++ get_or xs i d ∷ drop (suc i) xs ≡ xs
@@ -63,41 +50,12 @@ set_at (x ∷ xs) (suc i) y lt = ap (λ ys. x ∷ ys) (set_at xs i y (omega arit
 pub insert_at : {X : Type 0} (xs : List X) (i : ℕ) (y : X) → insert xs i y ≡ take i xs ++ y ∷ drop i xs
 insert_at xs i y = refl
 
--- ---- keys below and above one
-
-less-is_not : (o : Ordering) → is_lt o ≡ true → is_eq o ≡ false
-less-is_not Less h = refl
-less-is_not Equal h = absurd (false≢true h)
-less-is_not Greater h = refl
-
-equal-is : (o : Ordering) → is_eq o ≡ true → o ≡ Equal
-equal-is Less h = absurd (false≢true h)
-equal-is Equal h = refl
-equal-is Greater h = absurd (false≢true h)
+-- ---- keys below and key_lt-other one
 
 neither : (o : Ordering) → is_lt o ≡ false → is_eq o ≡ false → o ≡ Greater
 neither Less h k = absurd (false≢true (sym h))
 neither Equal h k = absurd (false≢true (sym k))
 neither Greater h k = refl
-
-pub same_key : (a b : List ℕ) → key_eq a b ≡ true → a ≡ b
-same_key a b h = exact_bytes a b (equal-is (slice_cmp nat_cmp a b) h)
-
-pub lt-differ : (a b : List ℕ) → key_lt a b ≡ true → key_eq a b ≡ false
-lt-differ a b h = less-is_not (slice_cmp nat_cmp a b) h
-
-pub gt-differ : (a b : List ℕ) → key_lt b a ≡ true → key_eq a b ≡ false
-gt-differ a b h = by (key_eq a b) refl
-  where
-    by : (r : Bool) → key_eq a b ≡ r → key_eq a b ≡ false
-    by false e = e
-    by true e = absurd (false≢true (sym (lt-differ b a h) ∙ subst (λ k. key_eq k a ≡ true) (same_key a b e) (key_eq-refl a)))
-
-pub above : (a b : List ℕ) → key_lt a b ≡ false → key_eq a b ≡ false → key_lt b a ≡ true
-above a b h k = lt_from_not_le a b (rw (neither (slice_cmp nat_cmp a b) h k) refl)
-
-pub not_lt-back : (a b : List ℕ) → key_lt a b ≡ true → key_lt b a ≡ false
-not_lt-back a b h = not_lt_from_le a b (le_from_lt a b h)
 
 abbrev pub AllBelow : List ℕ → List Cell → Type 0
 AllBelow key cells = AllByRecursion (λ c. key_lt c.key key ≡ true) cells
@@ -111,7 +69,7 @@ rise_drop [] (suc i) h = tt
 rise_drop (c ∷ cells) zero h = h
 rise_drop (c ∷ cells) (suc i) h = rise_drop cells i (rise-rest c cells h)
 
--- the cells behind one that isn't below the key stand above it
+-- the cells behind one that isn't below the key stand key_lt-other it
 pub all_above : (key : List ℕ) (c : Cell) (cells : List Cell) → ((a : List ℕ) → key_lt c.key a ≡ true → key_lt key a ≡ true) → Rise (keys (c ∷ cells)) → AllAbove key cells
 all_above key c [] under h = tt
 all_above key c (x ∷ cells) under h = (under x.key h.0, all_above key x cells (λ a lt. lt-trans key x.key a (under x.key h.0) lt) h.1)
@@ -124,7 +82,7 @@ rise_between key x (a ∷ []) [] e h below over = (subst (λ k. key_lt a.key k �
 rise_between key x (a ∷ []) (b ∷ B) e h below over = (subst (λ k. key_lt a.key k ≡ true) (sym e) below.0, (subst (λ k. key_lt k b.key ≡ true) (sym e) over.0, h.1))
 rise_between key x (a ∷ b ∷ A) B e h below over = (h.0, rise_between key x (b ∷ A) B e h.1 below.1 over)
 
--- ---- rows below and above a key
+-- ---- rows below and key_lt-other a key
 
 module _ (table : TableDef) (key : List ℕ) (row_of : Cell → Option (List Value)) where
   abbrev IsThere : Cell → Type 0
@@ -143,12 +101,12 @@ module _ (table : TableDef) (key : List ℕ) (row_of : Cell → Option (List Val
       → placed table row (xs ++ ys) ≡ xs ++ row ∷ ys
   placed_between row [] [] e below over = refl
   placed_between row [] (y ∷ ys) e below over = rw (e, over.0) refl
-  placed_between row (x ∷ xs) ys e below over = rw (e, not_lt-back (key_of table x) key below.0) (ap (λ rows. x ∷ rows) (placed_between row xs ys e below.1 over))
+  placed_between row (x ∷ xs) ys e below over = rw (e, key_lt-back (key_of table x) key below.0) (ap (λ rows. x ∷ rows) (placed_between row xs ys e below.1 over))
 
   pub none_equal : (xs ys : List (List Value)) → AllByRecursion (λ r. key_lt (key_of table r) key ≡ true) xs → AllByRecursion (λ r. key_lt key (key_of table r) ≡ true) ys → list_any (λ r. key_eq (key_of table r) key) (xs ++ ys) ≡ false
   none_equal [] [] below over = refl
-  none_equal [] (y ∷ ys) below over = rw (gt-differ (key_of table y) key over.0) (none_equal [] ys below over.1)
-  none_equal (x ∷ xs) ys below over = rw (lt-differ (key_of table x) key below.0) (none_equal xs ys below.1 over)
+  none_equal [] (y ∷ ys) below over = rw (key_gt-differs (key_of table y) key over.0) (none_equal [] ys below over.1)
+  none_equal (x ∷ xs) ys below over = rw (key_lt-differs (key_of table x) key below.0) (none_equal xs ys below.1 over)
 
   pub one_equal : (xs ys : List (List Value)) (row : List Value) → key_of table row ≡ key → list_any (λ r. key_eq (key_of table r) key) (xs ++ row ∷ ys) ≡ true
   one_equal [] ys row e = rw (e, key_eq-refl key) refl

@@ -25,7 +25,9 @@ use Rattle.one_thread.specs.declared.cells.Before.{Before}
 use Rattle.one_thread.specs.declared.cells.Before.TheVariants.{Same, Was, Absent}
 use Rattle.one_thread.specs.declared.cells.Cell.{Cell}
 use Rattle.one_thread.proofs.Rising.{keys}
-use Rattle.one_thread.proofs.Parts.{above, all_above, all_both, all_drop, all_left, all_right, all_take, none_equal, one_equal, parts_at, placed_between, rise_between, rise_drop, rows_have, set_at, AllAbove, AllBelow}
+use Rattle.one_thread.proofs.Parts.{all_above, all_drop, all_take, none_equal, one_equal, parts_at, placed_between, rise_between, rise_drop, rows_have, set_at, AllAbove, AllBelow}
+use Rattle.sql_base.proofs.Orderings.{key_lt-other}
+use Rattle.sql_base.proofs.Lists.{all_both, all_left, all_right}
 
 -- ---- finding the place
 
@@ -44,7 +46,7 @@ at_end key cells at end = all_drop (λ c. key_lt key c.key ≡ true) cells at (�
 pub above_new : (key : List ℕ) (cells : List Cell) (at : ℕ) (d : Cell) → at < length cells → Rise (keys cells) → Point key cells at → key_eq (get_or cells at d).key key ≡ false → AllAbove key (drop at cells)
 above_new key cells at d lt rise point differ =
     let c = get_or cells at d in
-    let over : key_lt key c.key ≡ true = above c.key key (point.1 at d (omega arith) lt) differ in
+    let over : key_lt key c.key ≡ true = key_lt-other c.key key (point.1 at d (omega arith) lt) differ in
     let is = behind_is cells at d lt in
     subst (AllAbove key) (sym is) (over, all_above key c (drop (suc at) cells) (λ a h. lt-trans key c.key a over h) (subst (λ cs. Rise (keys cs)) is (rise_drop cells at rise)))
 

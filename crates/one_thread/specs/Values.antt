@@ -3,9 +3,6 @@ use Rattle.std.specs.Prelude.{ℕ, ℤ, Option, Some, None, Bool, false, Result,
 use Rattle.sql_base.specs.Val.{Item, Outcome, IsNumber, IsText, IsTruth, IsNothing}
 use Rattle.sql_base.specs.declared.faults.EvalFault.{EvalFault}
 use Rattle.sql_base.specs.declared.faults.EvalFault.TheVariants.{Overflow}
-use Rattle.sql_base.specs.declared.faults.Fault.{Fault}
-use Rattle.sql_base.specs.declared.faults.Fault.TheVariants.{CheckFailed}
-use Rattle.sql_base.specs.OnRows.{fault_of}
 use Rattle.one_thread.specs.declared.values.Item.{Item as Held}
 use Rattle.one_thread.specs.declared.values.Item.TheVariants as held
 
@@ -32,9 +29,3 @@ abbrev pub truth_of : Outcome → Result Bool EvalFault
 truth_of (Err fault) = Err fault
 truth_of (Ok (IsTruth b)) = Ok b
 truth_of (Ok item) = Ok false
-
--- the fault of the CHECK of this number with this value
-abbrev pub failing : ℕ → Outcome → Option Fault
-failing number (Err fault) = Some (fault_of fault)
-failing number (Ok (IsTruth false)) = Some (CheckFailed number)
-failing number (Ok item) = None

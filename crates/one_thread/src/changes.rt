@@ -2,10 +2,10 @@
 
 ghost use Rattle.std.specs.Prelude.{◌≡◌, ◌<◌, ◌^◌, Option, is_some, length, option_map, slice_get, slice_set, unwrap_or, IfOk, OnOk};
 ghost use Rattle.std.specs.List.{list_any};
-ghost use Rattle.sql_base.specs.OnRows.{fault_of, first_failing, stored, updated};
+ghost use Rattle.sql_base.specs.OnRows.{fault_of, first_failing, judged, stored, updated};
 ghost use Rattle.sql_base.specs.Rows.{kinds, padded, width};
 ghost use Rattle.sql_base.specs.Val.{val};
-ghost use Rattle.one_thread.specs.Values.{failing, item_in};
+ghost use Rattle.one_thread.specs.Values.{item_in};
 
 use crate::values::{Item, value};
 use sql_base::{
@@ -102,13 +102,13 @@ fn padded(alloc: Global, text: &[u8], width: usize) -> Result<Text, NoMemory>
     Ok(Text::from_vec(bytes))
 }
 
-/// The fault of the first CHECK that faults or is false. CHECKs count from 1.
+/// The fault of the first CHECK that faults or isn't true. CHECKs count from 1.
 pub fn first_failing(checks: &[Expr], row: &[Value]) -> Option<Fault>
     requires few { length checks.now < 2 ^ 32 }
     ensures { result ≡ first_failing checks.now row.now }
 {
     for (i, check) in checks.iter().enumerate() {
-        let fault = failing(check, row, i as u32 + 1);
+        let fault = judged(check, row, i as u32 + 1);
         if fault.is_some() {
             return fault;
         }
@@ -116,7 +116,7 @@ pub fn first_failing(checks: &[Expr], row: &[Value]) -> Option<Fault>
     None
 }
 
-/// Whether a CHECK is false on the row, or faults.
+/// Whether a CHECK faults on the row, or isn't true.
 pub fn fails(checks: &[Expr], row: &[Value]) -> bool
     ensures { result ≡ is_some (first_failing checks.now row.now) }
 {
@@ -124,20 +124,20 @@ pub fn fails(checks: &[Expr], row: &[Value]) -> bool
 }
 
 fn any_fails(checks: &[Expr], row: &[Value]) -> bool
-    ensures { result ≡ list_any (λ check. is_some (failing 1 (val check row.now))) checks.now }
+    ensures { result ≡ list_any (λ check. is_some (judged 1 (val check row.now))) checks.now }
 {
-    checks.iter().any(|check| failing(check, row, 1).is_some())
+    checks.iter().any(|check| judged(check, row, 1).is_some())
 }
 
-fn failing(check: &Expr, row: &[Value], number: u32) -> Option<Fault>
-    ensures { result ≡ failing number (val check.now row.now) }
+fn judged(check: &Expr, row: &[Value], number: u32) -> Option<Fault>
+    ensures { result ≡ judged number (val check.now row.now) }
 {
     match value(check, row) {
         Ok(Item::Truth(true)) => None,
         Ok(Item::Truth(false)) => Some(Fault::CheckFailed { number }),
-        Ok(Item::Number(_)) => None,
-        Ok(Item::Text(_)) => None,
-        Ok(Item::Nothing) => None,
+        Ok(Item::Number(_)) => Some(Fault::CheckFailed { number }),
+        Ok(Item::Text(_)) => Some(Fault::CheckFailed { number }),
+        Ok(Item::Nothing) => Some(Fault::CheckFailed { number }),
         Err(fault) => Some(fault_of(fault)),
     }
 }

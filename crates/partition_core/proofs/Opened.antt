@@ -1,12 +1,9 @@
 -- A partition as it begins.
-use Rattle.std.proofs.Common.{◌≡◌, ◌<◌, ◌+◌, ℕ, zero, suc, List, [], ◌∷◌, ◌++◌, length, map, take, get_or, true, false, None, refl, ap, sym, ◌∙◌, subst, arith}
+use Rattle.std.proofs.Common.{◌≡◌, ◌<◌, ◌+◌, ℕ, zero, suc, List, [], ◌∷◌, ◌++◌, length, map, take, get_or, true, None, refl, ap, sym, ◌∙◌, subst, arith}
 use Rattle.std.specs.Prelude.{replicate}
 use Rattle.std.specs.List.{AllByRecursion}
-use Rattle.std.specs.Ordering.{is_eq, is_lt, nat_cmp}
+use Rattle.std.specs.Ordering.{nat_cmp}
 use Rattle.std.specs.Cmp.Lexicographic.{slice_cmp}
-use Rattle.std.specs.declared.cmp.Ordering.{Ordering}
-use Rattle.std.specs.declared.cmp.Ordering.TheVariants.{Less, Equal, Greater}
-use Rattle.std.proofs.lemmas.Bool.{false≢true}
 use Rattle.std.proofs.lemmas.List.{map-append, take_more}
 use Rattle.sql_base.specs.Keys.{key_lt, Rise}
 use Rattle.sql_base.specs.Rows.{AreRecords, IsRow, key_of, key_width, kinds}
@@ -25,6 +22,7 @@ use Rattle.partition_laws.specs.Keeping.{CellHas}
 use Rattle.partition_laws.proofs.Steps.{Keeps-opening}
 use Rattle.partition_core.specs.Contents.{Parts, IsRowAt, IsSeat, IsServing, kept_of}
 use Rattle.partition_core.specs.Kept.{opened_with}
+use Rattle.sql_base.proofs.Orderings.{less-differs}
 
 -- nothing served yet
 abbrev pub new_parts : TableDef → ℕ → Limits → ℕ → List ColumnKind → List (List ℕ) → List (List Value) → List Cell → Parts
@@ -66,11 +64,6 @@ below-last (x ∷ cells) c h = (all-last x.key cells c h.0, below-last cells c h
 -- the cells before the last of rising ones are below it
 pub below : (cells : List Cell) (c : Cell) → AreCells (cells ++ c ∷ []) → AllByRecursion (λ x. key_lt x.key c.key ≡ true) cells
 below cells c h = below-last cells c (Ascends-from_rise (cells ++ c ∷ []) h)
-
-less-differs : (o : Ordering) → is_lt o ≡ true → is_eq o ≡ false
-less-differs Less h = refl
-less-differs Equal h = absurd (false≢true h)
-less-differs Greater h = refl
 
 pub none-below : (key : List ℕ) (cells : List Cell) → AllByRecursion (λ x. key_lt x.key key ≡ true) cells → find_cell key cells ≡ None
 none-below key [] h = refl

@@ -10,15 +10,12 @@ use Rattle.partition_state.specs.State.{Opener, new_opener}
 use Rattle.partition_state.specs.declared.entries.Entry.{Entry}
 use Rattle.partition_core.specs.Contents.{IsPlace, IsSeat, entry_at, mark_of, opener_by, openers_in}
 use Rattle.partition_core.specs.Kept.{marked}
+use Rattle.sql_base.proofs.Lists.{slice_get-last}
 
 slice_get-before : {X : Type 0} (xs : List X) (x : X) (i : ℕ) → i < length xs → slice_get (xs ++ x ∷ []) i ≡ slice_get xs i
 slice_get-before [] x i lt = absurd (omega arith)
 slice_get-before (y ∷ xs) x zero lt = refl
 slice_get-before (y ∷ xs) x (suc i) lt = slice_get-before xs x i (omega arith)
-
-slice_get-last : {X : Type 0} (xs : List X) (x : X) → slice_get (xs ++ x ∷ []) (length xs) ≡ Some x
-slice_get-last [] x = refl
-slice_get-last (y ∷ xs) x = slice_get-last xs x
 
 -- an entry of the history stays where it is
 entry-same : (history : List Entry) (e : Entry) (place : Option ℕ) → IsPlace history place → entry_at (history ++ e ∷ []) place ≡ entry_at history place
@@ -59,12 +56,6 @@ seen_by last false place n (Some e) h = record { last = sym (h refl); starved = 
 
 pub seat-seen : (history : List Entry) (seat : Seat ℕ) (n : ℕ) → IsSeat history seat → IsSeen seat (entry_at history seat.kept) (marked (mark_of seat) (opener_by n (entry_at history seat.kept)))
 seat-seen history seat n h = seen_by seat.last seat.starved seat.kept n (entry_at history seat.kept) h.unmarked
-
--- a seat is written
-pub map-set : {A B : Type 0} (f : A → B) (xs : List A) (i : ℕ) (x : A) → map f (slice_set xs i x) ≡ slice_set (map f xs) i (f x)
-map-set f [] i x = refl
-map-set f (y ∷ xs) zero x = refl
-map-set f (y ∷ xs) (suc i) x = ap (λ ys. f y ∷ ys) (map-set f xs i x)
 
 pub length-slice_set : {A : Type 0} (xs : List A) (i : ℕ) (x : A) → length (slice_set xs i x) ≡ length xs
 length-slice_set [] i x = refl

@@ -10,7 +10,7 @@ use Rattle.key_sequenced.specs.Cells.{restored, settled}
 use Rattle.key_sequenced.specs.declared.Cell.{Cell}
 use Rattle.subset_blocks.specs.Blocks.{advanced, closed_of}
 use Rattle.subset_blocks.specs.declared.Numbered.{Numbered}
-use Rattle.subset_blocks.proofs.BlockLists.{gone_on-work, kept-filter, kept-push}
+use Rattle.subset_blocks.proofs.BlockLists.{gone_on-work}
 use Rattle.sync_messages.specs.Openers.{kept_as, new_seat, seat_of}
 use Rattle.sync_messages.specs.declared.Seat.{Seat}
 use Rattle.quantum_core.specs.declared.works.SetWork.{SetWork}
@@ -32,7 +32,8 @@ use Rattle.partition_core.specs.declared.changes.Change.TheVariants.{Stays, Begi
 use Rattle.partition_core.specs.declared.changes.Judgement.{Judgement}
 use Rattle.partition_core.proofs.Asked.{doing-asked}
 use Rattle.partition_core.proofs.Replays.{IsReplayed-served}
-use Rattle.partition_core.proofs.Seats.{length-slice_set, map-set, openers-ended, openers-noted, opener-seen, seat-is, seats-noted}
+use Rattle.partition_core.proofs.Seats.{length-slice_set, openers-ended, openers-noted, opener-seen, seat-is, seats-noted}
+use Rattle.sql_base.proofs.Lists.{all-filter, all-push, map_set}
 
 -- the state at an end, by its cells and openers
 abbrev ended_with : Parts → TxnName → List Cell → ℕ → List Opener → State
@@ -98,13 +99,13 @@ works-advanced table n last (b ∷ blocks) h = (subst (IsWork table) (sym (gone_
 works-changed : (q : Parts) (t : TxnName) (change : Change) → IsFitting q change → Works q.table q.blocks → Works q.table (changed q t change).blocks
 works-changed q t Stays fits h = h
 works-changed q t (Begins plans granule None) fits h = h
-works-changed q t (Begins plans granule (Some b)) fits h = kept-push (λ b. IsWork q.table b.block.work) q.blocks b h fits.opened
+works-changed q t (Begins plans granule (Some b)) fits h = all-push (λ b. IsWork q.table b.block.work) q.blocks b h fits.opened
 works-changed q t (Advances plans subset last) fits h = works-advanced q.table subset last q.blocks h
-works-changed q t (Closes plans subset) fits h = kept-filter (λ b. IsWork q.table b.block.work) _ q.blocks h
+works-changed q t (Closes plans subset) fits h = all-filter (λ b. IsWork q.table b.block.work) _ q.blocks h
 works-changed q t (Inserts key row lock) fits h = h
 works-changed q t Prepares fits h = h
-works-changed q t (Commits stamp) fits h = kept-filter (λ b. IsWork q.table b.block.work) _ q.blocks h
-works-changed q t Undoes fits h = kept-filter (λ b. IsWork q.table b.block.work) _ q.blocks h
+works-changed q t (Commits stamp) fits h = all-filter (λ b. IsWork q.table b.block.work) _ q.blocks h
+works-changed q t Undoes fits h = all-filter (λ b. IsWork q.table b.block.work) _ q.blocks h
 
 abbrev pub txn : ℕ → Request → TxnName
 txn opener request = record { session = opener; ordinal = request.ordinal }
@@ -154,7 +155,7 @@ kept-after q opener sync request j serving lies fresh told =
     ap (λ h. h ++ e ∷ []) f.history
     ∙ ap (λ (a : Answered). q.history ++ record { opener = opener; sync = sync; request = request; reply = a.reply } ∷ []) told in
     let marks : map mark_of (noted_parts q1 e).seats ≡ slice_set (map mark_of q.seats) (opener - 1) None =
-    map-set mark_of q1.seats (opener - 1) (kept_as sync (length q1.history)) ∙ ap (λ ss. slice_set (map mark_of ss) (opener - 1) None) f.seats in
+    map_set mark_of q1.seats (opener - 1) (kept_as sync (length q1.history)) ∙ ap (λ ss. slice_set (map mark_of ss) (opener - 1) None) f.seats in
     let opening : (kept_of (noted_parts q1 e)).opening ≡ (kept_of q).opening = rw (f.table, f.place, f.limits, f.rows) refl in
     ap (λ o. kept_by o (state_of (noted_parts q1 e)) (noted_parts q1 e).history (map mark_of (noted_parts q1 e).seats)) opening
     ∙ ap (λ n. kept_by (kept_of q).opening n (noted_parts q1 e).history (map mark_of (noted_parts q1 e).seats)) now

@@ -1,46 +1,31 @@
 -- The quantum of one key never goes on.
-use Rattle.std.proofs.Common.{◌≡◌, ℕ, zero, suc, List, [], ◌∷◌, ◌&&◌, not, Bool, true, false, cond, take, drop, map, refl, ap, sym, ◌∙◌, subst}
+use Rattle.std.proofs.Common.{◌≡◌, ℕ, zero, suc, List, [], ◌∷◌, ◌&&◌, Bool, true, false, cond, take, drop, map, refl, ap, sym, ◌∙◌, subst}
 use Rattle.std.specs.List.{AllByRecursion}
-use Rattle.std.proofs.lemmas.Bool.{false≢true, and_parts, and_left, and_right}
-use Rattle.sql_base.specs.Keys.{is_from, key_eq, key_le, key_lt}
+use Rattle.std.proofs.lemmas.Bool.{and_parts}
+use Rattle.sql_base.specs.Keys.{is_from, key_le, key_lt}
 use Rattle.sql_base.specs.declared.faults.Cause.{Cause}
 use Rattle.sql_base.specs.declared.key_ranges.Start.TheVariants.{At}
 use Rattle.sql_base.specs.declared.lock_names.Lock.{Lock}
 use Rattle.sql_base.specs.declared.scripts.Limits.{Limits}
 use Rattle.sql_base.specs.declared.tables.TableDef.{TableDef}
-use Rattle.sql_base.proofs.KeyOrders.{not_le_from_lt, not_lt_from_le}
 use Rattle.key_sequenced.specs.Cells.{AreCells}
 use Rattle.key_sequenced.specs.declared.Cell.{Cell}
 use Rattle.subset_blocks.specs.declared.Block.{Block}
-use Rattle.quantum_core.specs.Quantum.{answer, quantum, refusal, visits}
-use Rattle.quantum_core.specs.Verdicts.{Judged, candidates, is_candidate, is_hidden, judged, verdict}
+use Rattle.quantum_core.specs.Quantum.{answer, quantum, visits}
+use Rattle.quantum_core.specs.Verdicts.{Judged, candidates, is_candidate, judged, verdict}
 use Rattle.quantum_core.specs.declared.replies.QuantumReply.TheVariants as answers
-use Rattle.quantum_core.specs.declared.verdicts.Verdict.{Verdict}
-use Rattle.quantum_core.specs.declared.verdicts.Verdict.TheVariants.{Blocked, Faulty, PassedOver, Selected}
 use Rattle.quantum_core.specs.declared.works.SetWork.{SetWork}
 use Rattle.partition_laws.proofs.CellMoves.{cell_key}
-use Rattle.partition_laws.proofs.Orders.{Climbs, Climbs-from_rise, key_eq-is, lt-other}
+use Rattle.partition_laws.proofs.Orders.{Climbs, Climbs-from_rise}
 use Rattle.partition_core.proofs.Told.{Ends}
+use Rattle.sql_base.proofs.Orderings.{key_le-same}
+use Rattle.partition_laws.proofs.Singles.{beyond, refusal-no_redrive}
 
 -- one at most
 abbrev AtMostOne : {A : Type 0} → List A → Type 0
 AtMostOne [] = Unit {0}
 AtMostOne (x ∷ []) = Unit {0}
 AtMostOne (x ∷ y ∷ xs) = ⊥
-
--- keys that are at most each other are the same
-le-same : (a b : List ℕ) → key_le a b ≡ true → key_le b a ≡ true → a ≡ b
-le-same a b h k = at (key_eq a b) refl
-  where
-    at : (v : Bool) → key_eq a b ≡ v → a ≡ b
-    at true e = key_eq-is a b e
-    at false e = absurd (false≢true (sym (not_lt_from_le a b h) ∙ lt-other a b (not_lt_from_le b a k) e))
-
-beyond : (block : Block SetWork) (cells : List Cell) → AllByRecursion (λ o. key_lt block.high o ≡ true) (map cell_key cells) → candidates block cells ≡ []
-beyond block [] h = refl
-beyond block (c ∷ cells) h =
-    let out : is_candidate block c ≡ false = and_right (is_from block.start c.key) (key_le c.key block.high && not (is_hidden block c c.now)) (and_left (key_le c.key block.high) (not (is_hidden block c c.now)) (not_le_from_lt c.key block.high h.0)) in
-    ap (λ b. cond b (c ∷ candidates block cells) (candidates block cells)) out ∙ beyond block cells h.1
 
 one-candidate : (block : Block SetWork) (key : List ℕ) (cells : List Cell) → block.start ≡ At key → block.high ≡ key → Climbs (map cell_key cells) → AtMostOne (candidates block cells)
 one-candidate block key [] start high climbs = tt
@@ -52,7 +37,7 @@ one-candidate block key (c ∷ cells) start high climbs = at (is_candidate block
         let parts = and_parts (is_from block.start c.key) _ e in
         let low : key_le key c.key ≡ true = ap (λ s. is_from s c.key) (sym start) ∙ parts.0 in
         let up : key_le c.key block.high ≡ true = (and_parts (key_le c.key block.high) _ parts.1).0 in
-        let same : c.key ≡ block.high = le-same c.key block.high up (ap (λ k. key_le k c.key) high ∙ low) in
+        let same : c.key ≡ block.high = key_le-same c.key block.high up (ap (λ k. key_le k c.key) high ∙ low) in
         let none : candidates block cells ≡ [] = beyond block cells (subst (λ k. AllByRecursion (λ o. key_lt k o ≡ true) (map cell_key cells)) same climbs.0) in
         subst (λ cs. AtMostOne (c ∷ cs)) (sym none) tt
 
@@ -60,13 +45,6 @@ judged-one : (judge : Cell → Judged) (cells : List Cell) → AtMostOne cells �
 judged-one judge [] h = tt
 judged-one judge (c ∷ []) h = tt
 judged-one judge (c ∷ d ∷ cells) h = absurd h
-
--- with one candidate at most, a quantum ends or refuses
-refusal-no_redrive : (key : List ℕ) (v : Verdict) (last : List ℕ) (cause : Cause) (rows : List (List ℕ)) (changed : ℕ) → refusal key v ≡ answers.Redrive last cause rows changed → ⊥
-refusal-no_redrive key (Blocked lock) last cause rows changed e = absurd (cc)
-refusal-no_redrive key (Faulty fault) last cause rows changed e = absurd (cc)
-refusal-no_redrive key PassedOver last cause rows changed e = absurd (cc)
-refusal-no_redrive key (Selected effect) last cause rows changed e = absurd (cc)
 
 one-answer : (limits : Limits) (m : ℕ) (js : List Judged) (last : List ℕ) (cause : Cause) (rows : List (List ℕ)) (changed : ℕ) → AtMostOne js → answer limits (take m js) (drop m js) ≡ answers.Redrive last cause rows changed → ⊥
 one-answer limits zero [] last cause rows changed one e = absurd (cc)

@@ -11,7 +11,8 @@ use Rattle.partition_state.specs.declared.entries.Entry.{Entry}
 use Rattle.partition_laws.specs.Keeping.{Keeps, RowsKeep}
 use Rattle.partition_core.specs.Kept.{AreMarked, Kept, Serves, marked, opener_in, served, starved}
 use Rattle.partition_core.specs.Contents.{Parts, IsPlace, IsRowAt, IsServing, entry_at, kept_of, mark_of, opener_by, state_of}
-use Rattle.partition_core.proofs.Seats.{IsSeen, length-slice_set, map-set, mark-seen, opener-seen, openers-starved, seat-is, seat-seen, seats-starved}
+use Rattle.partition_core.proofs.Seats.{IsSeen, length-slice_set, mark-seen, opener-seen, openers-starved, seat-is, seat-seen, seats-starved}
+use Rattle.sql_base.proofs.Lists.{map_set}
 
 -- an opener is as its seat says
 pub seen : (q : Parts) (opener : ℕ) → IsServing q → IsSeen (seat_of q.seats opener) (entry_at q.history (seat_of q.seats opener).kept) (opener_in (kept_of q) opener)
@@ -51,7 +52,7 @@ kept_by q now marks = record { opening = (kept_of q).opening; now = now; history
 pub kept-starved : (q : Parts) (opener sync : ℕ) → IsServing q → kept_of (starved_parts q opener sync) ≡ starved (kept_of q) opener sync
 kept-starved q opener sync serving =
     ap (λ p. kept_by q p (map mark_of (starved_parts q opener sync).seats)) (state-starved q opener sync (serving.eight ∙ sym serving.eight_ended))
-    ∙ ap (kept_by q (state_of q)) (map-set mark_of q.seats (opener - 1) (starved_at sync (seat_of q.seats opener)))
+    ∙ ap (kept_by q (state_of q)) (map_set mark_of q.seats (opener - 1) (starved_at sync (seat_of q.seats opener)))
 
 pub IsServing-starved : (q : Parts) (opener sync : ℕ) → IsServing q → (seat_of q.seats opener).last < sync → IsServing (starved_parts q opener sync)
 IsServing-starved q opener sync serving fresh =

@@ -38,7 +38,7 @@ use Rattle.quantum_core.specs.declared.works.Doing.TheVariants.{Read, Update, De
 use Rattle.quantum_core.specs.declared.works.SetWork.{SetWork}
 use Rattle.dp_messages.specs.Spelling.{AreRows, HasFour, IsFault, IsLock, IsLong, IsShort}
 use Rattle.partition_laws.proofs.Lists.{all-map, all-passing, find-some}
-use Rattle.partition_laws.proofs.Verdicts.{all-take}
+use Rattle.sql_base.proofs.Lists.{all-take}
 
 -- a lock that stands
 pub conflict-spelled : (locks : List Lock) (t : TxnName) (prefix : List ℕ) (mode : Mode) (lock : Lock) → AllByRecursion IsLock locks → first_conflict locks t prefix mode ≡ Some lock → IsLock lock
@@ -60,9 +60,9 @@ failing-spelled number (check ∷ checks) row f few e = by_outcome (λ g. failin
     by_outcome rest (Err x) is = let g : Some (fault_of x) ≡ Some f = rw is at e in same_fault (fault_of x) f g (fault_of-spelled x)
     by_outcome rest (Ok (IsTruth false)) is = let g : Some (fault.CheckFailed number) ≡ Some f = rw is at e in same_fault (fault.CheckFailed number) f g (omega (arith, few))
     by_outcome rest (Ok (IsTruth true)) is = rest (rw is at e)
-    by_outcome rest (Ok (IsNumber n)) is = rest (rw is at e)
-    by_outcome rest (Ok (IsText text)) is = rest (rw is at e)
-    by_outcome rest (Ok IsNothing) is = rest (rw is at e)
+    by_outcome rest (Ok (IsNumber n)) is = let g : Some (fault.CheckFailed number) ≡ Some f = rw is at e in same_fault (fault.CheckFailed number) f g (omega (arith, few))
+    by_outcome rest (Ok (IsText text)) is = let g : Some (fault.CheckFailed number) ≡ Some f = rw is at e in same_fault (fault.CheckFailed number) f g (omega (arith, few))
+    by_outcome rest (Ok IsNothing) is = let g : Some (fault.CheckFailed number) ≡ Some f = rw is at e in same_fault (fault.CheckFailed number) f g (omega (arith, few))
 
 pub first_failing-spelled : (table : TableDef) (row : List Value) (f : Fault) → IsTable table → first_failing table.checks row ≡ Some f → IsFault f
 first_failing-spelled table row f is e = failing-spelled 1 table.checks row f (omega (arith, is.few_checks)) e

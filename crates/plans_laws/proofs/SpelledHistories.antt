@@ -21,8 +21,10 @@ use Rattle.run_record.specs.Openings.{openings, openings_from, rows_in_part}
 use Rattle.serial_laws.specs.Sound.{FitsHere, Sound}
 use Rattle.serial_laws.proofs.Opened.{sound-at, sound-opening}
 use Rattle.plans_laws.specs.Spelled.{CameSpelled, HistoriesSpelled, OpensSpelled, Spelled, envelope_of}
-use Rattle.plans_laws.proofs.Opened.{all_at, table_is}
+use Rattle.plans_laws.proofs.Opened.{table_is}
 use Rattle.plans_laws.proofs.SpelledSteps.{replies_spelled, steps_spelled}
+use Rattle.state_facts.proofs.Openings.{all-append}
+use Rattle.sql_base.proofs.Lists.{all_at}
 
 all-replicate : {X : Type 0} (P : X → Type 0) (n : ℕ) (x : X) → P x → AllByRecursion P (replicate n x)
 all-replicate P zero x h = tt
@@ -48,10 +50,6 @@ opened-spelled table place limits rows is are sound =
 
 pub opens_spelled : OpensSpelled
 opens_spelled table place limits rows is are records = opened-spelled table place limits (rows_in_part table place rows) is are (sound-opening table place limits rows records)
-
-all-append : (P : State → Type 0) (xs ys : List State) → AllByRecursion P xs → AllByRecursion P ys → AllByRecursion P (xs ++ ys)
-all-append P [] ys h k = k
-all-append P (x ∷ xs) ys h k = (h.0, all-append P xs ys h.1 k)
 
 openings-spelled : (script : Script) → IsScript script → (tables : List TableDef) (a : ℕ) → ((i : ℕ) (table : TableDef) → slice_get tables i ≡ Some table → slice_get script.tables (a + i) ≡ Some table)
     → AllByRecursion Spelled (openings_from script.limits tables (map (load_rows script.loads) (range_with_len a (length tables))))

@@ -1,10 +1,9 @@
 -- What plans ask can be spelled.
 use Rattle.std.proofs.Common.{◌≡◌, ◌+◌, ◌-◌, ◌<◌, ◌≤◌, ◌&&◌, ◌||◌, ℕ, zero, suc, List, [], ◌∷◌, length, map, Option, Some, None, Bool, true, false, eqb, not, cond, refl, ap, sym, ◌∙◌, subst, arith, length-append}
-use Rattle.std.specs.Prelude.{slice_get, unwrap_or, nat_eq, nat_lt, IfSome, Contains, sum_by}
+use Rattle.std.specs.Prelude.{slice_get, unwrap_or, nat_eq, nat_lt, IfSome, sum_by}
 use Rattle.std.specs.List.{AllByRecursion, list_all, list_any, range_with_len, starts_with}
 use Rattle.std.proofs.lemmas.Bool.{and_parts, eqb-false, eqb-true, false≢true, ltb-true, not-true, or_left, or_parts, or_right}
 use Rattle.std.proofs.lemmas.List.{length-map}
-use Rattle.std.proofs.lemmas.List.Elements.{All-contains, All-from_recursion}
 use Rattle.std.proofs.lemmas.List.FromFn.{length-range_with_len}
 use Rattle.std.proofs.lemmas.List.Sums.{sum_by-cons}
 use Rattle.sql_base.specs.Rows.{kinds, unpacked, width}
@@ -40,11 +39,11 @@ use Rattle.plans_laws.specs.Spelled.{Spelled}
 use Rattle.plans_laws.proofs.Plans.{FitsThere, plans_fit}
 use Rattle.plans_laws.proofs.SpelledHistories.{opening-spelled}
 use Rattle.plans_laws.proofs.Replying.{key-short}
-use Rattle.plans_laws.proofs.Opened.{all_at}
 use Rattle.record_laws.specs.Lanes.{is_begin, is_single}
 use Rattle.record_laws.proofs.Plans.{ArePlanned, IsAlone, IsBegin, planned}
 use Rattle.partition_laws.proofs.Lists.{all-weaker}
 use Rattle.sql_base.specs.Keys.{key_le}
+use Rattle.sql_base.proofs.Lists.{all_at, all_in, some-at}
 
 -- a prefix is no longer than what it begins
 prefix-short : (key prefix : List ℕ) → starts_with nat_eq key prefix ≡ true → length prefix ≤ length key
@@ -208,11 +207,6 @@ openings-length limits (table ∷ tables) (row ∷ rows) e =
       sum_by-cons (λ (d : TableDef). length d.firsts + 1) table tables,
     )
 
-some-at : {X : Type 0} (xs : List X) (i : ℕ) → i < length xs → (x : X) × (slice_get xs i ≡ Some x)
-some-at [] i lt = absurd (omega (arith, lt))
-some-at (x ∷ xs) zero lt = (x, refl)
-some-at (x ∷ xs) (suc i) lt = some-at xs i (omega (arith, lt))
-
 part-opens : (script : Script) (part : ℕ) → part < parts_of script.tables → (p : State) × (slice_get (openings script) part ≡ Some p)
 part-opens script part lt =
     let loads = length-map (range_with_len 0 (length script.tables)) (load_rows script.loads) ∙ length-range_with_len 0 (length script.tables) in
@@ -257,9 +251,6 @@ module _ (script : Script) (is : IsScript script) where
       let found = some-at script.sessions (session - 1) (omega (arith, low, high)) in
       subst (λ o. AllByRecursion (λ (work : Work). AllByRecursion (IsStatement script.tables) work.statements) (unwrap_or o [])) (sym found.1)
       (all_at (λ works. AllByRecursion (λ (work : Work). AllByRecursion (IsStatement script.tables) work.statements) works) script.sessions (session - 1) found.0 is.statements found.1)
-
-all_in : {X : Type 0} (P : X → Type 0) (x : X) (xs : List X) → Contains xs x → AllByRecursion P xs → P x
-all_in P x xs there h = All-contains P xs x (All-from_recursion P xs h) there
 
 pub plans_spelled : PlansSpelled
 plans_spelled script session work statement is lies has_work has_statement =

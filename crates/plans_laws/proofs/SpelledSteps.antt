@@ -33,18 +33,20 @@ use Rattle.partition_state.specs.declared.lives.Live.{Live}
 use Rattle.partition_laws.specs.Moves.{Move, Stays, Enters, Starts, Opens, Closes, Advances, Inserts, Locks, Prepares, Commits, Undoes, Fits, Moved, after, after_quantum, by, granule_of, handled_by, x_lock}
 use Rattle.partition_laws.proofs.CellMoves.{all-inserted, cell_key, keys-after}
 use Rattle.partition_laws.proofs.KeepingMoves.{handled_in}
-use Rattle.partition_laws.proofs.Lists.{all-filter_map, all-map, all-passing, all-push, all-weaker, find-some, some-same}
+use Rattle.partition_laws.proofs.Lists.{all-filter_map, all-map, all-passing, all-weaker, find-some}
 use Rattle.partition_laws.proofs.LiveMoves.{new_live, prepared-name}
 use Rattle.partition_laws.proofs.Moving.{moved}
-use Rattle.partition_laws.proofs.Names.{all-granted, same_txn-is}
+use Rattle.partition_laws.proofs.Names.{all-granted}
 use Rattle.partition_laws.proofs.RowLaws.{fixed-step}
 use Rattle.partition_laws.proofs.Singles.{read_key-ends}
 use Rattle.partition_laws.proofs.Stepped.{replied-new, stepped}
 use Rattle.partition_laws.proofs.Steps.{Keeps-step}
-use Rattle.partition_laws.proofs.Verdicts.{all-take}
 use Rattle.plans_laws.specs.Spelled.{PartsSpelled, RepliesSpelled, Spelled, StepsSpelled}
 use Rattle.plans_laws.proofs.Quanta.{IsJudged, IsQuantumReply, judged-spelled, quantum-spelled}
 use Rattle.plans_laws.proofs.Replying.{IsOnce, answer-spelled, key-short, opener-spelled}
+use Rattle.sql_base.proofs.Lists.{all-push, all-take}
+use Rattle.sql_base.proofs.Truths.{some-same}
+use Rattle.sql_base.proofs.RowFacts.{same_txn-is}
 
 -- keys of cells
 abbrev ShortKey : Cell → Type 0

@@ -26,6 +26,7 @@ use Rattle.quantum_core.specs.declared.verdicts.Effect.TheVariants.{Gives, Becom
 use Rattle.quantum_core.specs.declared.replies.QuantumReply.TheVariants.{Ended, Redrive}
 use Rattle.quantum_core.proofs.Greatest.{stops, ends}
 use Rattle.quantum_core.proofs.ReadOnly.{changes-verdict}
+use Rattle.sql_base.proofs.Truths.{if_not_true}
 
 abbrev pub as_judged : TableDef → List Lock → Block SetWork → Cell → Judged
 as_judged table locks block cell = record { key = cell.key; verdict = verdict table locks block cell }
@@ -115,10 +116,6 @@ walked_more limits done rows room visits last w next on stays fit lt = record {
 
 fits_push : (limits : Limits) (done : List Judged) (next : Judged) → may_handle limits (done ++ next ∷ []) ≡ true → (lets_on next.verdict ≡ true) × (sum_by (λ row. length row + 2) (rows_of (done ++ next ∷ [])) ≤ limits.buffer)
 fits_push limits done next h = grind (arith, nat_tests, goes_on-push done next)
-
-if_not_true : (b : Bool) → (b ≡ true → ⊥) → b ≡ false
-if_not_true true h = absurd (h refl)
-if_not_true false h = refl
 
 pub misfit : (limits : Limits) (done : List Judged) (rows : List (List ℕ)) (room visits : ℕ) (last : Option (List ℕ)) → Walked limits done rows room visits last → (next : Judged) → ((lets_on next.verdict ≡ true) × (room_for next.verdict ≤ room) → ⊥) → may_handle limits (done ++ next ∷ []) ≡ false
 misfit limits done rows room visits last w next stop = if_not_true _ (λ h.

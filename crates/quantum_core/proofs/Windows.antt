@@ -12,6 +12,7 @@ use Rattle.key_sequenced.specs.Cells.{AreCells}
 use Rattle.key_sequenced.specs.declared.Cell.{Cell}
 use Rattle.sql_base.specs.Keys.{is_from}
 use Rattle.sql_base.proofs.KeyOrders.{lt_from_not_le, not_lt_from_le, not_le_from_lt, le_from_lt, key_le-refl, key_le-trans, lt-trans}
+use Rattle.sql_base.proofs.Lists.{all-filter, all-take, filter-twice}
 
 -- from the start to the high key
 abbrev pub in_window : Start → List ℕ → Cell → Bool
@@ -42,12 +43,6 @@ Ascends-from_rise (cell ∷ []) h = (tt, tt)
 Ascends-from_rise (cell ∷ other ∷ cells) h =
     let rest : Ascends (other ∷ cells) = Ascends-from_rise (other ∷ cells) h.1 in
     ((h.0, above-trans cell.key other.key cells h.0 rest.0), rest)
-
--- what holds of each element holds of each of those that a filter keeps
-pub all-filter : {X : Type 0} (P : X → Type 0) (p : X → Bool) (xs : List X) → AllByRecursion P xs → AllByRecursion P (filter p xs)
-all-filter P p [] h = tt
-all-filter P p (x ∷ xs) h =
-    elim (p x) as (λ b. AllByRecursion P (cond b (x ∷ filter p xs) (filter p xs))) [ true ↦ (h.0, all-filter P p xs h.1) | false ↦ all-filter P p xs h.1 ]
 
 -- a filter keeps the order
 pub Ascends-filter : (p : Cell → Bool) (cells : List Cell) → Ascends cells → Ascends (filter p cells)
@@ -110,12 +105,6 @@ front-one cell cells key above e =
     let rest : filter (λ c. key_le c.key key) cells ≡ [] = none-up_to key cells (subst (λ k. AreAbove k cells) same above) in
     rw here (ap (λ cs. cell ∷ cs) rest)
 
--- what holds of each element holds of each of the first n
-pub all-take : {X : Type 0} (P : X → Type 0) (n : ℕ) (xs : List X) → AllByRecursion P xs → AllByRecursion P (take n xs)
-all-take P zero xs h = tt
-all-take P (suc n) [] h = tt
-all-take P (suc n) (x ∷ xs) h = (h.0, all-take P n xs h.1)
-
 -- in ascending cells the first n are those up to the last key of them
 front : (cells : List Cell) → Ascends cells → (n : ℕ) (key : List ℕ) → end_key (take n cells) ≡ Some key → filter (λ c. key_le c.key key) cells ≡ take n cells
 front cells h zero key e = absurd (cc)
@@ -127,16 +116,6 @@ front (cell ∷ other ∷ cells) h (suc (suc n)) key e =
     let rest : filter (λ c. key_le c.key key) (other ∷ cells) ≡ other ∷ take n cells = front (other ∷ cells) h.1 (suc n) key e in
     rw (le_from_lt cell.key key below) (ap (λ cs. cell ∷ cs) rest)
 
--- one more element through two filters
-twice_at : {X : Type 0} (q : X → Bool) (x : X) (b : Bool) (kept both : List X) → filter q kept ≡ both → filter q (cond b (x ∷ kept) kept) ≡ cond (b && q x) (x ∷ both) both
-twice_at q x true kept both e = ap (λ xs. cond (q x) (x ∷ xs) xs) e
-twice_at q x false kept both e = e
-
--- two filters one behind the other keep what passes both
-twice : {X : Type 0} (p q r : X → Bool) → ((x : X) → (p x && q x) ≡ r x) → (xs : List X) → filter q (filter p xs) ≡ filter r xs
-twice p q r h [] = refl
-twice p q r h (x ∷ xs) = twice_at q x (p x) (filter p xs) (filter r xs) (twice p q r h xs) ∙ ap (λ b. cond b (x ∷ filter r xs) (filter r xs)) (h x)
-
 -- what is within a lower bound is within the upper one
 narrower_at : (from within up_to : Bool) → (up_to ≡ true → within ≡ true) → ((from && within) && up_to) ≡ (from && up_to)
 narrower_at false within up_to h = refl
@@ -146,7 +125,7 @@ narrower_at true within true h = rw (h refl) refl
 -- the first n cells of a window are the window up to the last key of them
 pub window-front : (start : Start) (high : List ℕ) (cells : List Cell) → Ascends cells → (n : ℕ) (key : List ℕ) → end_key (take n (window start high cells)) ≡ Some key → key_le key high ≡ true → window start key cells ≡ take n (window start high cells)
 window-front start high cells h n key e within =
-    sym (twice (in_window start high) (λ c. key_le c.key key) (in_window start key) (λ c. narrower_at (is_from start c.key) (key_le c.key high) (key_le c.key key) (λ up_to. key_le-trans c.key key high up_to within)) cells)
+    sym (filter-twice (in_window start high) (λ c. key_le c.key key) (in_window start key) (λ c. narrower_at (is_from start c.key) (key_le c.key high) (key_le c.key key) (λ up_to. key_le-trans c.key key high up_to within)) cells)
     ∙ front (window start high cells) (Ascends-filter (in_window start high) cells h) n key e
 
 -- beyond a key the window up to it is empty

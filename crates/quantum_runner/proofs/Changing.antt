@@ -3,10 +3,7 @@ use Rattle.std.proofs.Common.{◌≡◌, ℕ, zero, suc, List, [], ◌∷◌, Bo
 use Rattle.std.specs.Option.{option_map}
 use Rattle.std.specs.List.{AllByRecursion, cons_option}
 use Rattle.std.specs.Cmp.Lexicographic.{slice_cmp}
-use Rattle.std.specs.Ordering.{is_eq, is_lt, nat_cmp, ordering_reverse}
-use Rattle.std.specs.declared.cmp.Ordering.{Ordering}
-use Rattle.std.specs.declared.cmp.Ordering.TheVariants.{Less, Equal, Greater}
-use Rattle.std.proofs.lemmas.Bool.{false≢true}
+use Rattle.std.specs.Ordering.{is_eq, nat_cmp, ordering_reverse}
 use Rattle.std.proofs.lemmas.Cmp.{nat_list_cmp_total}
 use Rattle.sql_base.specs.Keys.{key_eq, key_lt}
 use Rattle.sql_base.specs.Locks.{granted}
@@ -27,11 +24,13 @@ use Rattle.quantum_core.specs.declared.verdicts.Verdict.{Verdict}
 use Rattle.quantum_core.specs.declared.verdicts.Verdict.TheVariants.{Blocked, Faulty, PassedOver, Selected}
 use Rattle.quantum_core.specs.declared.works.SetWork.{SetWork}
 use Rattle.quantum_core.proofs.Walking.{as_judged}
-use Rattle.quantum_core.proofs.Windows.{Ascends, Ascends-filter, Ascends-from_rise, all-take}
+use Rattle.quantum_core.proofs.Windows.{Ascends, Ascends-filter, Ascends-from_rise}
 use Rattle.quantum_runner.specs.Plans.{IsWalk, granted_by, handled_by, left_with, plan_of, plans_of, rewritten_by, x_on}
 use Rattle.quantum_runner.specs.declared.planned.Walk.{Walk}
 use Rattle.quantum_core.specs.declared.replies.QuantumReply.{QuantumReply}
 use Rattle.sql_base.specs.declared.scripts.Limits.{Limits}
+use Rattle.sql_base.proofs.Orderings.{equal-is, key_eq-swapped, reverse-differs}
+use Rattle.sql_base.proofs.Lists.{all-take}
 
 -- each key is below those behind it
 abbrev pub KeysClimb : List Judged → Type 0
@@ -55,33 +54,15 @@ climb-handled : (table : TableDef) (locks : List Lock) (block : Block SetWork) (
 climb-handled table locks block cells n h =
     climb-take n (judged table locks block cells) (climb-judged table locks block (filter (is_candidate block) cells) (Ascends-filter (is_candidate block) cells (Ascends-from_rise cells h)))
 
-greater-differs : (o : Ordering) → is_lt o ≡ true → is_eq (ordering_reverse o) ≡ false
-greater-differs Less h = refl
-greater-differs Equal h = absurd (false≢true h)
-greater-differs Greater h = absurd (false≢true h)
-
 -- a key isn't equal to one below it
 above-differs : (a b : List ℕ) → key_lt a b ≡ true → key_eq b a ≡ false
-above-differs a b h = ap is_eq (nat_list_cmp_total.antisymm b a) ∙ greater-differs (slice_cmp nat_cmp a b) h
-
-is-equal : (o : Ordering) → is_eq o ≡ true → o ≡ Equal
-is-equal Less h = absurd (false≢true h)
-is-equal Equal h = refl
-is-equal Greater h = absurd (false≢true h)
+above-differs a b h = ap is_eq (nat_list_cmp_total.antisymm b a) ∙ reverse-differs (slice_cmp nat_cmp a b) h
 
 -- keys that compare as equal compare alike with others
 eq-alike : (a b c : List ℕ) → key_eq a b ≡ true → key_eq c a ≡ key_eq c b
 eq-alike a b c h =
-    let same = is-equal (slice_cmp nat_cmp a b) h in
+    let same = equal-is (slice_cmp nat_cmp a b) h in
     ap is_eq (nat_list_cmp_total.antisymm c a) ∙ ap (λ o. is_eq (ordering_reverse o)) (nat_list_cmp_total.congr a b c same) ∙ sym (ap is_eq (nat_list_cmp_total.antisymm c b))
-
-eq-swapped : (a b : List ℕ) → key_eq a b ≡ key_eq b a
-eq-swapped a b = ap is_eq (nat_list_cmp_total.antisymm a b) ∙ turned (slice_cmp nat_cmp b a)
-  where
-    turned : (o : Ordering) → is_eq (ordering_reverse o) ≡ is_eq o
-    turned Less = refl
-    turned Equal = refl
-    turned Greater = refl
 
 -- nothing behind a candidate changes its record
 no-change : (key : List ℕ) (j : Judged) (js : List Judged) → key_eq j.key key ≡ true → AllByRecursion (λ k. key_lt j.key k.key ≡ true) js → change_at key js ≡ None
@@ -122,10 +103,10 @@ first-changed t j js now c some h = at (key_eq j.key c.key) refl
   where
     at : (b : Bool) → key_eq j.key c.key ≡ b → after t js (changed_at t j.key now c) ≡ cell_after t (cond b (change_of j.verdict) (change_at c.key js)) c
     at true e =
-        let same : key_eq c.key j.key ≡ true = eq-swapped c.key j.key ∙ e in
+        let same : key_eq c.key j.key ≡ true = key_eq-swapped c.key j.key ∙ e in
         ap (λ b. after t js (cond b (rewritten t now c) c)) same ∙ ap (λ o. cell_after t o (rewritten t now c)) (no-change c.key j js e h) ∙ ap (λ o. cell_after t o c) (sym some)
     at false e =
-        let other : key_eq c.key j.key ≡ false = eq-swapped c.key j.key ∙ e in
+        let other : key_eq c.key j.key ≡ false = key_eq-swapped c.key j.key ∙ e in
         ap (λ b. after t js (cond b (rewritten t now c) c)) other
 
 pub rewritten-handled : (t : TxnName) (js : List Judged) (cells : List Cell) → KeysClimb js → AreCells cells → rewritten_by (plans_of t js) cells ≡ cells_after t js cells

@@ -30,6 +30,7 @@ use Rattle.quantum_core.proofs.Walking.{as_judged, judged_more, judged_split}
 use Rattle.quantum_runner.specs.Plans.{IsWalk, halted, handled_by, option_list, plan_of, plans_of}
 use Rattle.quantum_runner.specs.declared.planned.Planned.{Planned}
 use Rattle.quantum_runner.specs.declared.planned.Walk.{Walk}
+use Rattle.sql_base.proofs.Truths.{if_not_true}
 
 -- these candidates are handled, and this is what the code keeps of them
 pub record Walked (limits : Limits) (t : TxnName) (done : List Judged) (rows : List (List ℕ)) (room visited changed : ℕ) (plans : List Planned) (last : Option (List ℕ)) : Type 0 where
@@ -114,10 +115,6 @@ walked_more limits t done rows room visited changed plans last w next on fit lt 
 
 fits_push : (limits : Limits) (done : List Judged) (next : Judged) → may_handle limits (done ++ next ∷ []) ≡ true → (lets_on next.verdict ≡ true) × (sum_by (λ row. length row + 2) (rows_of (done ++ next ∷ [])) ≤ limits.buffer)
 fits_push limits done next h = grind (arith, nat_tests, goes_on-push done next)
-
-if_not_true : (b : Bool) → (b ≡ true → ⊥) → b ≡ false
-if_not_true true h = absurd (h refl)
-if_not_true false h = refl
 
 misfit : (limits : Limits) (t : TxnName) (done : List Judged) (rows : List (List ℕ)) (room visited changed : ℕ) (plans : List Planned) (last : Option (List ℕ)) → Walked limits t done rows room visited changed plans last → (next : Judged) → ((lets_on next.verdict ≡ true) × (room_for next.verdict ≤ room) → ⊥) → may_handle limits (done ++ next ∷ []) ≡ false
 misfit limits t done rows room visited changed plans last w next stop = if_not_true _ (λ h.

@@ -27,6 +27,7 @@ use Rattle.run_record.proofs.CrossedSessions.{asked, begin, changed, committed, 
 use Rattle.record_laws.specs.SoFar.{LegalSoFar, way_of}
 use Rattle.record_laws.proofs.Beginning.{nothing_open}
 use Rattle.record_laws.proofs.Finishing.{finished-legal}
+use Rattle.run_record.proofs.DrawnLogs.{of_logs}
 
 -- the table may be declared
 is_table : IsTable table
@@ -73,7 +74,7 @@ drawn_of (suc zero) d (k, lt, is) = absurd (omega (arith, lt))
 drawn_of (suc (suc place)) d (k, lt, is) = absurd (omega (arith, lt))
 
 stamps : StampsDrawn kept
-stamps = record { rise = (refl, tt); once = refl; drawn = λ d. (λ h. (1, h), λ h. drawn_of _ d h.1); in_order = (tt, (tt, tt)) }
+stamps = record { rise = (refl, tt); once = refl; drawn = of_logs kept (λ d. (λ h. (1, h), λ h. drawn_of _ d h.1)); in_order = (tt, (tt, tt)) }
 
 -- the histories have what each session asked, with its replies
 served : (part session : ℕ) → part < 2 → Lies 1 2 session → AreServed (filter (is_for part) (log_of kept session)) (filter (λ e. e.opener == session) (history_of kept part))

@@ -17,15 +17,12 @@ use Rattle.session_grammar.specs.Plans.{Asker}
 use Rattle.session_grammar.specs.declared.plans.Sent.{Sent}
 use Rattle.session_grammar.specs.Rows.{IsAsked, IsRow, failure, is_end, is_for}
 use Rattle.record_text.specs.Reading.{failure_behind, last_failure}
+use Rattle.session_laws.proofs.Loose.{all_on}
 
 -- what was asked of one partition, and no End
 abbrev pub IsWork : ℕ → LogEntry → Type 0
 IsWork part (Asked p sync request losses answer) = (p ≡ part) × (is_end request.ask ≡ false)
 IsWork part (Drew name floor answer) = ⊥
-
-pub all_on : (P : LogEntry → Type 0) (xs ys : List LogEntry) → AllByRecursion P xs → AllByRecursion P ys → AllByRecursion P (xs ++ ys)
-all_on P [] ys h k = k
-all_on P (x ∷ xs) ys h k = (h.0, all_on P xs ys h.1 k)
 
 module _ (part : ℕ) where
   pub last-append : (found : Option Abort) (xs ys : List LogEntry) → last_failure part found (xs ++ ys) ≡ last_failure part (last_failure part found xs) ys

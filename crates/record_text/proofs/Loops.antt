@@ -119,6 +119,3 @@ pub within-sum : {A : Type 0} (xs : List (List A)) (i : ℕ) (x : List A) → i 
 within-sum [] i x lt is = absurd (omega (arith, lt))
 within-sum {A = A} (y ∷ xs) zero x lt is = omega (arith, ap length is, sum_by-cons (λ (z : List A). length z) y xs)
 within-sum {A = A} (y ∷ xs) (suc i) x lt is = omega (arith, within-sum xs i x (omega (arith, lt)) is, sum_by-cons (λ (z : List A). length z) y xs)
-
-pub few-works : (n m k : ℕ) → n ≤ m → m * k ≤ 1000 → n * k ≤ 1000
-few-works n m k le most = omega (arith, mul-le-mul_right k le, most)

@@ -14,7 +14,8 @@ use Rattle.requester_fs.specs.Stages.{AreWorks, IsIn, doing_of, statements_of, t
 use Rattle.requester_fs.specs.Working.{IsWorking}
 use Rattle.requester_fs.specs.declared.stages.Stand.{Stand}
 use Rattle.requester_fs.specs.declared.walking.Planner.{Planner}
-use Rattle.requester_fs.proofs.Lists.{all_at, some_at}
+use Rattle.requester_fs.proofs.Lists.{all_at}
+use Rattle.sql_base.proofs.Lists.{some-at}
 
 times_least : (n each : ℕ) → n ≤ times n (each + 1)
 times_least zero each = omega arith
@@ -41,7 +42,7 @@ one_of_sum f (y ∷ ys) (suc n) x is = omega (arith, one_of_sum f ys n x is, sum
 
 module _ (script : Script) (number : ℕ) (is : IsScript script) (lies : Lies 1 (length script.sessions) number) where
   here : (works : List Work) × (slice_get script.sessions (number - 1) ≡ Some works)
-  here = some_at script.sessions (number - 1) (omega (arith, lies))
+  here = some-at script.sessions (number - 1) (omega (arith, lies))
 
   works_are : works_of script number ≡ here.0
   works_are = ap (λ o. unwrap_or o []) here.1

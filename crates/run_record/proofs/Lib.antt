@@ -1,4 +1,5 @@
 pub mod EntryLists
+pub mod DrawnLogs
 pub mod TwoSessions
 pub mod CrossedSessions
 pub mod CrossedReplays

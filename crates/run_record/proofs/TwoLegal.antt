@@ -21,6 +21,7 @@ use Rattle.run_record.specs.Openings.{history_of, log_of}
 use Rattle.run_record.proofs.TwoReadings.{reader_read, writer_read}
 use Rattle.run_record.proofs.TwoSessions.{all_four, asked, both, first_draw, inserting, kept, reader, reading, row, scan, script, second_draw, table, writer}
 use Rattle.run_record.proofs.WorkedRows.{history_replays}
+use Rattle.run_record.proofs.DrawnLogs.{of_logs}
 
 -- what is in a list of one is that one
 in_one : {X : Type 0} (x y : X) → Contains (x ∷ []) y → y ≡ x
@@ -80,7 +81,7 @@ drawn_by_one d (suc zero, lt, is) = (1, (0, lit≤ tt, is))
 drawn_by_one d (suc (suc k), lt, is) = absurd (omega (arith, lt))
 
 stamps : StampsDrawn kept
-stamps = record { rise = (refl, (refl, tt)); once = refl; drawn = λ d. (drawn_by_one d, λ h. drawn_of_two _ d h.1); in_order = (tt, (tt, tt)) }
+stamps = record { rise = (refl, (refl, tt)); once = refl; drawn = of_logs kept (λ d. (drawn_by_one d, λ h. drawn_of_two _ d h.1)); in_order = (tt, (tt, tt)) }
 
 -- the history has what each session asked, with its replies
 served : (part session : ℕ) → part < 1 → Lies 1 2 session → AreServed (filter (is_for part) (log_of kept session)) (filter (λ e. e.opener == session) (history_of kept part))

@@ -1,5 +1,5 @@
 -- Which records are those of a run of the script.
-use Rattle.std.specs.Prelude.{◌≡◌, ◌≤◌, ◌<◌, ℕ, ◌==◌, List, [], ◌∷◌, length, map, filter, filter_map, find, Option, Some, None, true, ◌↔◌, ◌⊎◌, Contains}
+use Rattle.std.specs.Prelude.{◌≡◌, ◌≤◌, ◌<◌, ℕ, ◌==◌, List, [], ◌∷◌, length, map, filter, filter_map, find, flat_map, Option, Some, None, true, ◌↔◌, ◌⊎◌, Contains}
 use Rattle.std.specs.List.{AllZip, AllByRecursion, last_or}
 use Rattle.sql_base.specs.Locks.{same_txn}
 use Rattle.sql_base.specs.declared.outcomes.Outcome.TheVariants.{Committed}
@@ -41,7 +41,7 @@ StampsOfLogRise (d ∷ e ∷ ds) = (d.stamp < e.stamp) × StampsOfLogRise (e ∷
 pub record StampsDrawn (kept : RunRecord) : Type 0 where
   pub rise : StampsRise 0 kept.journal
   pub once : all_differ same_txn (map (λ d. d.name) kept.journal) ≡ true
-  pub drawn : (d : Drawn) → Contains kept.journal d ↔ ((session : ℕ) × Contains (drawn_in (log_of kept session)) d)
+  pub drawn : (d : Drawn) → Contains kept.journal d ↔ Contains (flat_map drawn_in kept.logs) d
   pub in_order : AllByRecursion (λ log. StampsOfLogRise (drawn_in log)) kept.logs
 
 -- the entries of an opener in a history are those that its log asked of the partition, in their order and with their replies;

@@ -23,6 +23,7 @@ use Rattle.run_record.specs.Openings.{openings, openings_from, rows_in_part}
 use Rattle.serial_laws.proofs.Opened.{load-records}
 use Rattle.serial_passes.proofs.Givings.{part_within}
 use Rattle.serial_passes.proofs.Placings.{parts_in_order}
+use Rattle.sql_base.proofs.Lists.{range-length}
 
 -- the records of these partitions
 abbrev pub opened_views : List State → List (List Keyed)
@@ -138,10 +139,6 @@ module _ (table : TableDef) where
   opened_rows limits rows [] = refl
   opened_rows limits rows (j ∷ places) = λ i. new_rows table (rows_in_part table j rows) i ++ opened_rows limits rows places i
 
-length_range : (n a : ℕ) → length (range_with_len a n) ≡ n
-length_range zero a = refl
-length_range (suc n) a = ap suc (length_range n (a + 1))
-
 front_of : {A : Type 0} (n : ℕ) (xs ys : List A) → length xs ≡ n → (take n (xs ++ ys) ≡ xs) × (drop n (xs ++ ys) ≡ ys)
 front_of n xs ys same = (ap (λ m. take m (xs ++ ys)) (sym same) ∙ take-append_seam xs ys, ap (λ m. drop m (xs ++ ys)) (sym same) ∙ drop-append_seam xs ys)
 
@@ -153,7 +150,7 @@ tables_again limits (table ∷ tables) (rows ∷ loads) (are, rest) =
     let n : ℕ = length table.firsts + 1 in
     let opens : List State = map (λ j. opening table j limits (rows_in_part table j rows)) (range_with_len 0 n) in
     let more : List State = openings_from limits tables loads in
-    let long : length (opened_views opens) ≡ n = length-map opens (λ q. records q.cells) ∙ length-map (range_with_len 0 n) (λ j. opening table j limits (rows_in_part table j rows)) ∙ length_range n 0 in
+    let long : length (opened_views opens) ≡ n = length-map opens (λ q. records q.cells) ∙ length-map (range_with_len 0 n) (λ j. opening table j limits (rows_in_part table j rows)) ∙ range-length n 0 in
     let split : opened_views (opens ++ more) ≡ opened_views opens ++ opened_views more = map-append (λ (q : State). records q.cells) opens more in
     let parts = front_of n (opened_views opens) (opened_views more) long in
     let head : flat_map (λ held. map (λ k. k.row) held) (take n (opened_views (opens ++ more))) ≡ rows =

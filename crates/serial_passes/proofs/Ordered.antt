@@ -36,6 +36,7 @@ use Rattle.serial_passes.proofs.Bases.{StampsAbove, below, stamps_above}
 use Rattle.serial_passes.proofs.Finals.{below_last, by_part-agree, final_base}
 use Rattle.serial_passes.proofs.LoadedTables.{opened_tables, opened_views}
 use Rattle.serial_passes.proofs.Serially.{legal_is_serial}
+use Rattle.run_record.proofs.DrawnLogs.{drawn_by_logs}
 
 -- ---- the journal below a stamp
 
@@ -139,7 +140,7 @@ module _ (script : Script) (kept : RunRecord) (legal : Legal script kept) where
   -- the attempt of a commit
   commit_of : (d : Drawn) → Contains kept.journal d → (c : Commit) × (c.drawn ≡ d) × IsCommit script kept c
   commit_of d there =
-      let from = (legal.stamps_drawn.drawn d).0 there in
+      let from = (drawn_by_logs kept legal.stamps_drawn d).0 there in
       let w = drawn_where script kept [] (legal-so_far script kept legal) d from.0 from.1 in
       let follows = legal.logs_follow.each w.0 w.1 in
       let named = all_at (IsDrawnBy (asker script w.0) follows.0) d (drawn_in (log_of kept w.0)) w.2 (drawn_by (asker script w.0) (works_of script w.0) (log_of kept w.0) follows.0 follows.1) in

@@ -26,7 +26,7 @@ abbrev pub IsWork : ℕ → LogEntry → Type 0
 IsWork part (Asked p sync request losses answer) = (p ≡ part) × (is_end request.ask ≡ false)
 IsWork part (Drew name floor answer) = ⊥
 
-all_on : (P : LogEntry → Type 0) (xs ys : List LogEntry) → AllByRecursion P xs → AllByRecursion P ys → AllByRecursion P (xs ++ ys)
+pub all_on : (P : LogEntry → Type 0) (xs ys : List LogEntry) → AllByRecursion P xs → AllByRecursion P ys → AllByRecursion P (xs ++ ys)
 all_on P [] ys h k = k
 all_on P (x ∷ xs) ys h k = (h.0, all_on P xs ys h.1 k)
 

@@ -21,7 +21,8 @@ use Rattle.session_grammar.specs.Follows.{AreAttempts, AreEnds, ArePrepares, Are
 use Rattle.session_grammar.specs.Plans.{Asker}
 use Rattle.session_grammar.specs.Rows.{IsAsked}
 use Rattle.session_laws.specs.Leading.{answer_of}
-use Rattle.session_laws.proofs.Rows.{Same, asked_answer, behind_same, first_same, regroup, rest_same, turns_same}
+use Rattle.session_laws.proofs.Rows.{Same, asked_answer, first_same, regroup, rest_same, turns_same}
+use Rattle.session_grammar.proofs.Readings.{behind_same}
 
 -- two endings and their outcomes are the same
 record SameEnding (xs ys : List LogEntry) (a b : Outcome) : Type 0 where

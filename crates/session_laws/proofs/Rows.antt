@@ -1,6 +1,5 @@
 -- No row, no list of a request and no part in line is the front of another: they are read off a log in one way.
 use Rattle.std.proofs.Common.{◌≡◌, ℕ, zero, suc, List, [], ◌∷◌, ◌++◌, Option, None, true, refl, ap, sym, ◌∙◌, subst, inl, inr, append_assoc}
-use Rattle.std.proofs.lemmas.List.{append_cancel_left}
 use Rattle.std.specs.Prelude.{IsSome}
 use Rattle.sql_base.specs.declared.outcomes.Abort.{Abort}
 use Rattle.sql_base.specs.declared.statements.Statement.{Statement}
@@ -19,6 +18,7 @@ use Rattle.session_grammar.specs.declared.plans.Plan.TheVariants.{Singles, Subse
 use Rattle.session_grammar.specs.declared.plans.Sent.{Sent}
 use Rattle.session_grammar.specs.Rows.{IsAsked, IsRow, failure, is_locked}
 use Rattle.session_laws.specs.Leading.{answer_of}
+use Rattle.session_grammar.proofs.Readings.{behind_same}
 
 -- two fronts and their ends are the same
 pub record Same (xs ys : List LogEntry) (e f : Option Abort) : Type 0 where
@@ -28,10 +28,6 @@ pub record Same (xs ys : List LogEntry) (e f : Option Abort) : Type 0 where
 pub asked_answer : (part : ℕ) (request : Request) (answer : Answer) (e : LogEntry) → IsAsked part request answer e → answer_of e ≡ answer
 asked_answer part request answer (Asked p s q l a) h = h.2
 asked_answer part request answer (Drew n f a) h = absurd h
-
--- what has two fronts that are the same has the same behind them
-pub behind_same : (xs ys us vs : List LogEntry) → xs ≡ ys → xs ++ us ≡ ys ++ vs → us ≡ vs
-behind_same xs ys us vs same is = append_cancel_left ys us vs (ap (λ list. list ++ us) (sym same) ∙ is)
 
 pub first_same : (x y : LogEntry) (xs ys : List LogEntry) → x ∷ xs ≡ y ∷ ys → x ≡ y
 first_same x y xs ys h = cc h

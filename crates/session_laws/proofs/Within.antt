@@ -1,9 +1,9 @@
 -- A plan asks rising partitions, and all of them are there.
-use Rattle.std.proofs.Common.{◌≡◌, ◌≤◌, ◌<◌, ℕ, zero, suc, ◌+◌, List, [], ◌∷◌, length, map, cond, Option, Some, None, Bool, true, false, refl, subst, arith}
-use Rattle.std.specs.Prelude.{slice_get, unwrap_or, option_map, filter_map, take, if◌then◌else◌}
+use Rattle.std.proofs.Common.{◌≡◌, ◌≤◌, ◌<◌, ℕ, zero, suc, ◌+◌, List, [], ◌∷◌, length, map, cond, Option, Some, None, Bool, true, false, refl, arith}
+use Rattle.std.specs.Prelude.{slice_get, unwrap_or, option_map, filter_map}
 use Rattle.std.specs.List.{range_with_len, cons_option}
 use Rattle.std.proofs.lemmas.List.{length-map}
-use Rattle.std.proofs.lemmas.List.Sums.{count_by-le-length, sum_by-cons}
+use Rattle.std.proofs.lemmas.List.Sums.{count_by-le-length}
 use Rattle.sql_base.specs.Codes.{sets_code}
 use Rattle.sql_base.specs.Keys.{key_eq, key_le, key_max, key_min, common_prefix}
 use Rattle.sql_base.specs.Rows.{key_of, packed}
@@ -24,6 +24,7 @@ use Rattle.session_grammar.specs.Plans.{Asker, all_columns, begins, begins_in, f
 use Rattle.session_grammar.specs.declared.plans.Plan.TheVariants.{Singles, Subsets}
 use Rattle.session_grammar.specs.declared.plans.Sent.{Sent}
 use Rattle.session_laws.specs.Machine.{sents_of}
+use Rattle.sql_base.proofs.RowFacts.{parts_within}
 
 -- the partitions rise from `low` on, and stay below `high`
 abbrev pub Rise : ℕ → ℕ → List Sent → Type 0
@@ -33,20 +34,6 @@ Rise low high (sent ∷ sents) = (low ≤ sent.part) × (sent.part < high) × Ri
 rise_from : (low low' high high' : ℕ) (sents : List Sent) → low' ≤ low → high ≤ high' → Rise low high sents → Rise low' high' sents
 rise_from low low' high high' [] l h rise = tt
 rise_from low low' high high' (sent ∷ sents) l h rise = (omega (arith, rise.0), omega (arith, rise.1), rise_from (sent.part + 1) (sent.part + 1) high high' sents (omega arith) h rise.2)
-
--- the tables up to one of them, with its partitions, have no more than all
-first_within : (tables : List TableDef) (place : ℕ) (table : TableDef) → slice_get tables place ≡ Some table → parts_of (take place tables) + (length table.firsts + 1) ≤ parts_of tables
-first_within [] place table is = absurd (cc is)
-first_within (t ∷ tables) zero table is =
-    let same : t ≡ table = cc is in
-    let count : parts_of (t ∷ tables) ≡ length t.firsts + 1 + parts_of tables = sum_by-cons (λ (d : TableDef). length d.firsts + 1) t tables in
-    let here : 0 + (length t.firsts + 1) ≤ parts_of (t ∷ tables) = omega (arith, count) in
-    subst (λ (x : TableDef). 0 + (length x.firsts + 1) ≤ parts_of (t ∷ tables)) same here
-first_within (t ∷ tables) (suc place) table is =
-    let more = first_within tables place table is in
-    let count : parts_of (t ∷ tables) ≡ length t.firsts + 1 + parts_of tables = sum_by-cons (λ (d : TableDef). length d.firsts + 1) t tables in
-    let front : parts_of (take (suc place) (t ∷ tables)) ≡ length t.firsts + 1 + parts_of (take place tables) = sum_by-cons (λ (d : TableDef). length d.firsts + 1) t (take place tables) in
-    omega (arith, more, count, front)
 
 part_within : (table : TableDef) (key : List ℕ) → part_of table key < length table.firsts + 1
 part_within table key = omega (arith, count_by-le-length (λ first. key_le first key) (first_keys table), length-map table.firsts (first_key table))
@@ -117,4 +104,4 @@ plans_rise r s = found (slice_get r.tables (table_of s)) refl
     found : (o : Option TableDef) → slice_get r.tables (table_of s) ≡ o → Rise 0 (parts_of r.tables) (sents_of (unwrap_or (option_map (λ table. plan_on r table s) o) (Subsets [])))
     found None is = tt
     found (Some table) is =
-        rise_from 0 0 (end r table (table_of s)) (parts_of r.tables) (sents_of (plan_on r table s)) (omega arith) (first_within r.tables (table_of s) table is) (plan_rises r table s)
+        rise_from 0 0 (end r table (table_of s)) (parts_of r.tables) (sents_of (plan_on r table s)) (omega arith) (parts_within r.tables (table_of s) table is) (plan_rises r table s)

@@ -7,3 +7,8 @@ pub mod UnpackedLength
 mod WorkedRows
 pub mod CommonPrefixes
 pub mod FaultsOfKeys
+pub mod Failing
+pub mod Truths
+pub mod Lists
+pub mod Orderings
+pub mod RowFacts

@@ -1,5 +1,5 @@
 -- What an UPDATE and the CHECKs make of one row.
-use Rattle.std.specs.Prelude.{ℕ, ◌+◌, List, [], ◌∷◌, slice_get, slice_set, Option, Some, None, option_map, unwrap_or, false, Result, Ok, Err}
+use Rattle.std.specs.Prelude.{ℕ, ◌+◌, List, [], ◌∷◌, slice_get, slice_set, Option, Some, None, option_map, unwrap_or, true, false, Result, Ok, Err}
 use Rattle.sql_base.specs.Rows.{padded, width, kinds}
 use Rattle.sql_base.specs.Val.{val, Item, Outcome, IsNumber, IsText, IsTruth, IsNothing}
 use Rattle.sql_base.specs.declared.expressions.Expr.{Expr}
@@ -37,15 +37,23 @@ assigned table old (set ∷ sets) new = then_with (val set.value old) (λ item. 
 abbrev pub updated : TableDef → List Assign → List Value → Result (List Value) EvalFault
 updated table sets row = assigned table row sets row
 
--- the fault of the first CHECK that faults or is false; CHECKs count from 1
+-- the fault of the CHECK of this number with this value: a CHECK fails where it isn't true
+abbrev pub judged : ℕ → Outcome → Option Fault
+judged number (Err fault) = Some (fault_of fault)
+judged number (Ok (IsTruth true)) = None
+judged number (Ok (IsTruth false)) = Some (fault.CheckFailed number)
+judged number (Ok (IsNumber n)) = Some (fault.CheckFailed number)
+judged number (Ok (IsText text)) = Some (fault.CheckFailed number)
+judged number (Ok IsNothing) = Some (fault.CheckFailed number)
+
+abbrev pub or_later : Option Fault → Option Fault → Option Fault
+or_later (Some fault) later = Some fault
+or_later None later = later
+
+-- the fault of the first CHECK that fails; CHECKs count from 1
 abbrev pub failing_from : ℕ → List Expr → List Value → Option Fault
 failing_from number [] row = None
-failing_from number (check ∷ checks) row = judge (val check row) (failing_from (number + 1) checks row)
-  where
-    judge : Outcome → Option Fault → Option Fault
-    judge (Err fault) later = Some (fault_of fault)
-    judge (Ok (IsTruth false)) later = Some (fault.CheckFailed number)
-    judge (Ok item) later = later
+failing_from number (check ∷ checks) row = or_later (judged number (val check row)) (failing_from (number + 1) checks row)
 
 abbrev pub first_failing : List Expr → List Value → Option Fault
 first_failing checks row = failing_from 1 checks row

@@ -1,6 +1,6 @@
 -- A draft without fault: what has been judged holds.
 use Rattle.std.proofs.Common.{◌≡◌, ℕ, Bool, true, false, not, ◌&&◌, Option, Some, None, refl, sym, subst, arith}
-use Rattle.std.specs.Prelude.{nat_le, if◌then◌else◌}
+use Rattle.std.specs.Prelude.{nat_le}
 use Rattle.std.proofs.lemmas.Bool.Decides.{nat_tests}
 use Rattle.sql_base.specs.Scripts.{Lies, AreLimits}
 use Rattle.sql_base.specs.declared.scripts.Limits.{Limits}
@@ -13,6 +13,7 @@ use Rattle.statement_draft.specs.declared.faults.Fault.{Fault}
 use Rattle.statement_draft.specs.declared.faults.Reason.{Reason}
 use Rattle.statement_draft.specs.declared.faults.Reason.TheVariants.{OverLimit, NumberTooWide}
 use Rattle.statement_draft.specs.declared.draft.Draft.{Draft}
+use Rattle.sql_base.proofs.Truths.{not-false}
 
 pub sooner-some : (f : Option Fault) (g : Fault) → sooner f (Some g) ≡ None → ⊥
 sooner-some None g h = cc
@@ -26,10 +27,6 @@ sooner-some (Some f) g h = chosen_one _ f g h
 pub noted-none : (holds : Bool) (reason : Reason) (at : ℕ) (first : Option Fault) → noted holds reason at first ≡ None → (holds ≡ false) × (first ≡ None)
 noted-none true reason at first h = absurd (sooner-some first _ h)
 noted-none false reason at first h = (refl, h)
-
-pub not-false : (b : Bool) → not b ≡ false → b ≡ true
-not-false true h = refl
-not-false false h = absurd (cc)
 
 pub lies : (low high n : ℕ) → nat_le low n && nat_le n high ≡ true → Lies low high n
 lies low high n h = (grind (arith, nat_tests, h), grind (arith, nat_tests, h))

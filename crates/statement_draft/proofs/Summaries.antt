@@ -1,7 +1,7 @@
 -- Operators over operands that describe their trees give such operands.
 use Rattle.std.proofs.Common.{◌≡◌, ℕ, ℤ, pos, ◌+◌, ◌^◌, ◌≤◌, zero, suc, min, max, List, [], ◌∷◌, ◌++◌, length, Bool, true, false, Option, Some, None, refl, sym, ap, subst, ◌∙◌, arith, lt-ltb}
 use Rattle.std.proofs.lemmas.List.{length-append}
-use Rattle.std.specs.Prelude.{slice_get, neg_ℤ, if◌then◌else◌, nat_lt, ◌&&◌, option_map, option_and_then, nat_le}
+use Rattle.std.specs.Prelude.{slice_get, neg_ℤ, nat_lt, ◌&&◌, option_map, option_and_then, nat_le}
 use Rattle.std.specs.Int.{w16, to_be_bytes}
 use Rattle.sql_base.specs.Codes.{code_of, code_step, counted}
 use Rattle.sql_base.specs.Kinds.{kind_of, kind_step, depth_of, depth_step}
@@ -23,6 +23,7 @@ use Rattle.statement_draft.specs.declared.kinds.Kind.TheVariants as kind
 use Rattle.statement_draft.specs.declared.kinds.Operand.{Operand}
 use Rattle.statement_draft.specs.declared.kinds.Op.{Op}
 use Rattle.statement_draft.specs.declared.kinds.Op.TheVariants as op
+use Rattle.sql_base.proofs.Truths.{max-itself}
 
 -- depth counted up to 33 on both sides
 deep : (a b m n : ℕ) → a ≡ min 33 m → b ≡ min 33 n → min 32 (max a b) + 1 ≡ min 33 (max m n + 1)
@@ -34,9 +35,6 @@ long a b m n k e f = grind (arith, e, f)
 
 once : (a m : ℕ) → a ≡ min 8193 m → min 8193 (a + 1) ≡ min 8193 (m + 1)
 once a m e = grind (arith, e)
-
-twice : (n : ℕ) → max n n ≡ n
-twice n = grind (arith)
 
 arith_kind : (a b : Option Kind) → option_map meant (of_arith a b) ≡ base.of_arith (option_map meant a) (option_map meant b)
 arith_kind (Some kind.Number) (Some kind.Number) = refl
@@ -110,7 +108,7 @@ code_joined op.And x y = ap length (fold-And _ code_step x y) ∙ between (code_
 code_joined op.Or x y = ap length (fold-Or _ code_step x y) ∙ between (code_of x) (code_of y) _
 
 same_depth : (x : Expr) → max (depth_of x) (depth_of x) + 1 ≡ depth_of (expr.Not x)
-same_depth x = ap (λ n. n + 1) (twice (depth_of x)) ∙ sym (fold-Not _ depth_step x)
+same_depth x = ap (λ n. n + 1) (max-itself (depth_of x)) ∙ sym (fold-Not _ depth_step x)
 
 code_turned : (x : Expr) → length (code_of (expr.Not x)) ≡ length (code_of x) + 1
 code_turned x = ap length (fold-Not _ code_step x) ∙ length-append (code_of x) _

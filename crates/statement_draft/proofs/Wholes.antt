@@ -1,8 +1,7 @@
 -- What is known of all operands stays so, and a whole predicate without fault is one.
-use Rattle.std.proofs.Common.{◌≡◌, ℕ, ◌+◌, ◌≤◌, min, List, [], ◌∷◌, length, Bool, true, false, ◌||◌, refl, ap, ◌∙◌, arith}
-use Rattle.std.specs.Prelude.{nat_lt, option_map}
+use Rattle.std.proofs.Common.{◌≡◌, ℕ, ◌+◌, ◌≤◌, List, [], ◌∷◌, length, ◌||◌, ap, ◌∙◌}
+use Rattle.std.specs.Prelude.{option_map}
 use Rattle.std.specs.List.{AllByRecursion}
-use Rattle.std.proofs.lemmas.Bool.Decides.{nat_tests}
 use Rattle.sql_base.specs.Codes.{code_of}
 use Rattle.sql_base.specs.Kinds.{depth_of}
 use Rattle.sql_base.specs.declared.tables.TableDef.{TableDef}
@@ -13,6 +12,7 @@ use Rattle.statement_draft.specs.declared.kinds.Op.{Op}
 use Rattle.statement_draft.specs.declared.kinds.Operand.{Operand}
 use Rattle.statement_draft.specs.declared.kinds.Operator.TheVariants as operator
 use Rattle.statement_draft.proofs.Summaries.{binary_describes, negation_describes}
+use Rattle.sql_base.proofs.Truths.{counted, or_left, or_right}
 
 abbrev Known : TableDef → List Operand → Type 0
 Known table xs = AllByRecursion (DescribesItsTree table) xs
@@ -29,17 +29,6 @@ joined_kept table o at (b ∷ a ∷ xs) e hx he = (binary_describes table o a b 
 pub operands_kept : OperandsKept
 operands_kept table (operator.Not at) e h = turned_kept table at e.operands e h h
 operands_kept table (operator.Joins o at) e h = joined_kept table o at e.operands e h h
-
-or_left : (a b : Bool) → a || b ≡ false → a ≡ false
-or_left true b h = h
-or_left false b h = refl
-
-or_right : (a b : Bool) → a || b ≡ false → b ≡ false
-or_right true b h = absurd (cc)
-or_right false b h = h
-
-counted : (most d m : ℕ) → d ≡ min (most + 1) m → nat_lt most d ≡ false → m ≤ most
-counted most d m e h = grind (arith, nat_tests, e, h)
 
 pub whole_is_predicate : WholeIsPredicate
 whole_is_predicate table x e h tree truth fits = let d = h e tree in record {

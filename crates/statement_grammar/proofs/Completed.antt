@@ -19,6 +19,7 @@ use Rattle.statement_grammar.specs.declared.symbols.Symbol.{Symbol}
 use Rattle.statement_grammar.specs.declared.symbols.Symbol.TheVariants as symbols
 use Rattle.statement_grammar.proofs.Fewest.{fixed_word, a_name, a_number, fewest, completion, opens, absorbs, absorbs_at, first_word, Safe}
 use Rattle.statement_grammar.proofs.Safety.{behind_safe}
+use Rattle.sql_base.proofs.Truths.{first_two, neither, or_left, or_right}
 
 -- safety of lists that are put together
 
@@ -158,18 +159,6 @@ passes_part p s (w ∷ ws) empty f h =
     passes_word _ s w ws (ap (λ o. (begins [] (symbols.Part p) o s (may_be_empty p) (advance [] s w)).taken) (f w h)
     ∙ ap (λ b. (begins [] (symbols.Part p) None s b (advance [] s w)).taken) empty)
 
-or_left : (a b : Bool) → a || b ≡ false → a ≡ false
-or_left true b h = h
-or_left false b h = refl
-
-or_right : (a b : Bool) → a || b ≡ false → b ≡ false
-or_right true b h = absurd (cc)
-or_right false b h = h
-
-neither : (a b : Bool) → a ≡ false → b ≡ false → a || b ≡ false
-neither true b ha hb = ha
-neither false b ha hb = hb
-
 -- a part that takes no word in isn't begun by it
 shut : (p : Part) → may_be_empty p ≡ true → (w : Word) → absorbs p w ≡ false → behind p w ≡ None
 shut (parts.Limit l) m w h = unopened _ h
@@ -294,11 +283,6 @@ none_left parts.Expression = (refl, refl, (refl, refl, (refl, refl, tt)))
 none_left parts.Condition = (refl, refl, (refl, refl, (refl, refl, tt)))
 none_left p = tt
 
-product_sum : (a b c : Bool) → a || (b || c) ≡ false → b || a ≡ false
-product_sum true b c h = absurd (cc)
-product_sum false true c h = absurd (cc)
-product_sum false false c h = refl
-
 some_left : (p : Part) (w : Word) (ws : List Word) → absorbs p w ≡ false → Empty (left p) (w ∷ ws)
 some_left parts.Table w ws h = (refl, h, tt)
 some_left parts.ColumnOrKey w ws h = (refl, h, tt)
@@ -311,7 +295,7 @@ some_left parts.Sets w ws h =
       or_left _ _ c,
       (
         refl,
-        product_sum (opens parts.ProductRest w) (opens parts.SumRest w) (opens parts.CompareRest w) c,
+        first_two (opens parts.ProductRest w) (opens parts.SumRest w) (opens parts.CompareRest w) c,
         (
           refl,
           c,
@@ -323,8 +307,8 @@ some_left parts.Sets w ws h =
         ),
       ),
     )
-some_left parts.Expression w ws h = (refl, or_left _ _ h, (refl, product_sum (opens parts.ProductRest w) (opens parts.SumRest w) (opens parts.CompareRest w) h, (refl, h, tt)))
-some_left parts.Condition w ws h = (refl, or_left _ _ h, (refl, product_sum (opens parts.ProductRest w) (opens parts.SumRest w) (opens parts.CompareRest w) h, (refl, h, tt)))
+some_left parts.Expression w ws h = (refl, or_left _ _ h, (refl, first_two (opens parts.ProductRest w) (opens parts.SumRest w) (opens parts.CompareRest w) h, (refl, h, tt)))
+some_left parts.Condition w ws h = (refl, or_left _ _ h, (refl, first_two (opens parts.ProductRest w) (opens parts.SumRest w) (opens parts.CompareRest w) h, (refl, h, tt)))
 some_left p w ws h = tt
 
 nothing_more : (p : Part) (ws : List Word) → absorbs_at p (first_word ws None) ≡ false → Empty (left p) ws

@@ -1,6 +1,5 @@
 -- What follows the word that begins a part is safe where the part is.
 use Rattle.std.proofs.Common.{◌≡◌, List, [], ◌∷◌, Bool, true, false, ◌||◌, Option, Some, None, refl, subst}
-use Rattle.std.specs.Prelude.{if◌then◌else◌}
 use Rattle.statement_words.specs.declared.tokens.Word.{Word}
 use Rattle.statement_grammar.specs.WordsAt.{is_key, is_sign, is_name, is_literal}
 use Rattle.statement_words.specs.declared.keywords.Keyword.TheVariants.{Table, Int, Select, From, Update, Delete, Insert, Into, Values, Lock, In, Mode, For, Browse, Access, Not}
@@ -14,14 +13,7 @@ use Rattle.statement_grammar.specs.declared.symbols.Part.TheVariants as parts
 use Rattle.statement_grammar.specs.declared.symbols.Symbol.{Symbol}
 use Rattle.statement_grammar.specs.declared.symbols.Symbol.TheVariants as symbols
 use Rattle.statement_grammar.proofs.Fewest.{opens, in_comparison, absorbs, absorbs_at, Safe}
-
-or_left : (a b : Bool) → a || b ≡ false → a ≡ false
-or_left true b h = h
-or_left false b h = refl
-
-or_right : (a b : Bool) → a || b ≡ false → b ≡ false
-or_right true b h = absurd (cc)
-or_right false b h = h
+use Rattle.sql_base.proofs.Truths.{first_two, neither, or_left, or_right}
 
 -- a part that takes fewer words in
 fewer : (p q : Part) → ((w : Word) → absorbs p w ≡ false → absorbs q w ≡ false) → (x : Option Word) → absorbs_at p x ≡ false → absorbs_at q x ≡ false
@@ -136,10 +128,6 @@ more_selected_safe x w more h e = only (Safe x) _ _ more e (h, tt)
 more_keys_safe : SafeBehind parts.MoreKeyColumns more_keys_behind
 more_keys_safe x w more h e = only (Safe x) _ _ more e (h, tt)
 
-neither : (a b : Bool) → a ≡ false → b ≡ false → a || b ≡ false
-neither true b ha hb = ha
-neither false b ha hb = hb
-
 -- what no expression takes in
 clear_and : (a c n o : Bool) → c || (n || o) ≡ false → n || c ≡ false
 clear_and a true n o h = absurd (cc)
@@ -184,16 +172,11 @@ first_sets_safe x w more h e =
       ),
     )
 
-swapped : (a b c : Bool) → a || (b || c) ≡ false → b || a ≡ false
-swapped true b c h = absurd (cc)
-swapped false true c h = absurd (cc)
-swapped false false c h = refl
-
 -- behind the operand that a comparison begins with
 comparison_safe : (x : Option Word) → absorbs_at parts.Condition x ≡ false → Safe x (symbols.Part parts.ProductRest ∷ symbols.Part parts.SumRest ∷ symbols.Part parts.CompareRest ∷ [])
 comparison_safe x h = (
   fewer parts.Condition parts.ProductRest (λ w h. or_left _ _ h) x h,
-  (fewer parts.Condition parts.SumRest (λ w h. swapped (opens parts.ProductRest w) (opens parts.SumRest w) (opens parts.CompareRest w) h) x h, (fewer parts.Condition parts.CompareRest (λ w h. h) x h, tt)),
+  (fewer parts.Condition parts.SumRest (λ w h. first_two (opens parts.ProductRest w) (opens parts.SumRest w) (opens parts.CompareRest w) h) x h, (fewer parts.Condition parts.CompareRest (λ w h. h) x h, tt)),
 )
 
 condition_safe : SafeBehind parts.Condition condition_behind

@@ -10,20 +10,6 @@ use Rattle.sql_base.specs.declared.statements.Assign.{Assign}
 use Rattle.sql_base.specs.declared.tables.TableDef.{TableDef}
 use Rattle.update_expressions.specs.Refusing.{AreTyped}
 
--- the tables before a place, with the one there, have no more than all
-pub parts_within : (tables : List TableDef) (place : ℕ) (table : TableDef) → slice_get tables place ≡ Some table → parts_of (take place tables) + (length table.firsts + 1) ≤ parts_of tables
-parts_within [] place table is = absurd (cc is)
-parts_within (t ∷ tables) zero table is =
-    let same : t ≡ table = cc is in
-    let count : parts_of (t ∷ tables) ≡ length t.firsts + 1 + parts_of tables = sum_by-cons (λ (d : TableDef). length d.firsts + 1) t tables in
-    let here : 0 + (length t.firsts + 1) ≤ parts_of (t ∷ tables) = omega (arith, count) in
-    subst (λ (x : TableDef). 0 + (length x.firsts + 1) ≤ parts_of (t ∷ tables)) same here
-parts_within (t ∷ tables) (suc place) table is =
-    let more = parts_within tables place table is in
-    let count : parts_of (t ∷ tables) ≡ length t.firsts + 1 + parts_of tables = sum_by-cons (λ (d : TableDef). length d.firsts + 1) t tables in
-    let front : parts_of (take (suc place) (t ∷ tables)) ≡ length t.firsts + 1 + parts_of (take place tables) = sum_by-cons (λ (d : TableDef). length d.firsts + 1) t (take place tables) in
-    omega (arith, more, count, front)
-
 -- one table more
 pub parts_more : (tables : List TableDef) (place : ℕ) (table : TableDef) → slice_get tables place ≡ Some table → parts_of (take (place + 1) tables) ≡ parts_of (take place tables) + (length table.firsts + 1)
 parts_more [] place table is = absurd (cc is)
@@ -39,12 +25,6 @@ parts_more (t ∷ tables) (suc place) table is =
     let front : parts_of (t ∷ take place tables) ≡ length t.firsts + 1 + parts_of (take place tables) = sum_by-cons (λ (d : TableDef). length d.firsts + 1) t (take place tables) in
     let all : parts_of (t ∷ take (place + 1) tables) ≡ parts_of (t ∷ take place tables) + (length table.firsts + 1) = omega (arith, more, long, front) in
     ap (λ n. parts_of (take n (t ∷ tables))) one ∙ all
-
--- what holds of each holds of the one at a place
-pub all_at : {A : Type 0} (P : A → Type 0) (xs : List A) (i : ℕ) (x : A) → AllByRecursion P xs → slice_get xs i ≡ Some x → P x
-all_at P [] i x all is = absurd (cc is)
-all_at P (y ∷ ys) zero x all is = let same : y ≡ x = cc is in subst P same all.0
-all_at P (y ∷ ys) (suc i) x all is = all_at P ys i x all.1 is
 
 -- a list is longer than the place of what it has there
 pub place_lt : {A : Type 0} (xs : List A) (i : ℕ) (x : A) → slice_get xs i ≡ Some x → i < length xs

@@ -27,6 +27,7 @@ use Rattle.statement_rules.proofs.States.{Tabling, Between}
 use Rattle.statement_rules.proofs.StatementSteps.{no_filter}
 use Rattle.statement_rules.proofs.TableParts.{limit_meets, table_meets, kind_meets, column_or_key_meets, more_keys_meets, more_checks_meets, check_meets, first_keys_meets, more_firsts_meets, row_meets, literal_meets, more_literals_meets, loads_meets, more_rows_meets}
 use Rattle.statement_rules.proofs.WholeSteps.{Begun}
+use Rattle.sql_base.proofs.Truths.{times-fewer}
 
 expression_meets : (w : Word) (at : ℕ) (more : List Symbol) (d : Draft) → IsFormedWord w → behind parts.Condition w ≡ Some more → (part_came parts.Expression w at d).first ≡ None
     → Demand more (Begun d) (part_came parts.Expression w at d)
@@ -139,9 +140,6 @@ whole_script : (d : Draft) → Tabling d → Demand script Finished d
 whole_script d t =
     (t, λ e1 t1. (t1, λ e2 t2. (t2, λ e3 t3. (t3, λ e4 t4. (t4, λ e5 t5. (t5, λ e6 tabled. (loads_begin e6 tabled, λ e7 loading. (sessions_begin e7 loading, λ e8 done. done))))))))
 
-times_less : (m n r : ℕ) → m ≤ n → n * r ≤ 1000 → m * r ≤ 1000
-times_less m n r h k = grind (arith, h, k)
-
 is_script : (d : Draft) → Finished d → IsScript (script_of d)
 is_script d f = let b = f.0 in record {
   limits = b.limits;
@@ -153,7 +151,7 @@ is_script d f = let b = f.0 in record {
   loads_differ = b.loads.differ;
   some_sessions = (f.1, b.few);
   some_works = b.some_works;
-  works = times_less (sum_by (λ (works : List Work). length works) d.sessions) d.works (d.limits.restart + 1) b.counted b.within;
+  works = times-fewer (sum_by (λ (works : List Work). length works) d.sessions) d.works (d.limits.restart + 1) b.counted b.within;
   statements = b.statements;
 }
 

@@ -1,6 +1,6 @@
 -- Names that differ, and one more that is none of them.
 use Rattle.std.proofs.Common.{◌≡◌, ◌≤◌, ◌<◌, ◌+◌, ℕ, List, [], ◌∷◌, ◌++◌, length, map, not, ◌&&◌, ◌||◌, Bool, true, false, Some, None, refl, sym, ap, ◌∙◌, arith}
-use Rattle.std.specs.Prelude.{nat_le, if◌then◌else◌}
+use Rattle.std.specs.Prelude.{nat_le}
 use Rattle.std.specs.List.{list_any}
 use Rattle.std.specs.Str.{bytes_eq}
 use Rattle.std.proofs.lemmas.Bool.Decides.{nat_tests}
@@ -10,38 +10,7 @@ use Rattle.sql_base.specs.Tables.{all_differ}
 use Rattle.sql_base.specs.declared.tables.Column.{Column}
 use Rattle.sql_base.specs.declared.tables.TableDef.{TableDef}
 use Rattle.statement_draft.specs.Names.{column_from, column_named, table_from, table_named}
-
-or_false : (a b : Bool) → a ≡ false → b ≡ false → a || b ≡ false
-or_false false b h e = e
-or_false true b h e = absurd (cc (h))
-
-left_false : (a b : Bool) → a || b ≡ false → a ≡ false
-left_false true b h = h
-left_false false b h = refl
-
-right_false : (a b : Bool) → a || b ≡ false → b ≡ false
-right_false true b h = absurd (cc (h))
-right_false false b h = h
-
-left_true : (a b : Bool) → a && b ≡ true → a ≡ true
-left_true true b h = refl
-left_true false b h = h
-
-right_true : (a b : Bool) → a && b ≡ true → b ≡ true
-right_true true b h = h
-right_true false b h = absurd (cc (h))
-
-and_true : (a b : Bool) → a ≡ true → b ≡ true → a && b ≡ true
-and_true true b h e = e
-and_true false b h e = absurd (cc (h))
-
-not_true : (b : Bool) → not b ≡ true → b ≡ false
-not_true true h = absurd (cc (h))
-not_true false h = refl
-
-is_not : (b : Bool) → b ≡ false → not b ≡ true
-is_not true h = absurd (cc (h))
-is_not false h = refl
+use Rattle.sql_base.proofs.Truths.{and_left, and_right, and_true, neither, not-is, not-true, or_left, or_right}
 
 bytes_turned : (a b : List ℕ) → bytes_eq a b ≡ false → bytes_eq b a ≡ false
 bytes_turned a b h = by_test (bytes_eq b a) refl
@@ -51,16 +20,16 @@ bytes_turned a b h = by_test (bytes_eq b a) refl
     by_test true e = absurd (cc (h, (bytes_eq-Decides a b).1 (sym ((bytes_eq-Decides b a).0 e))))
 
 none_more : (x : List ℕ) (xs : List (List ℕ)) (c : List ℕ) → list_any (bytes_eq x) xs ≡ false → bytes_eq x c ≡ false → list_any (bytes_eq x) (xs ++ c ∷ []) ≡ false
-none_more x [] c h e = or_false (bytes_eq x c) false e refl
-none_more x (y ∷ ys) c h e = or_false (bytes_eq x y) _ (left_false (bytes_eq x y) _ h) (none_more x ys c (right_false (bytes_eq x y) _ h) e)
+none_more x [] c h e = neither (bytes_eq x c) false e refl
+none_more x (y ∷ ys) c h e = neither (bytes_eq x y) _ (or_left (bytes_eq x y) _ h) (none_more x ys c (or_right (bytes_eq x y) _ h) e)
 
 one_more_differs : (xs : List (List ℕ)) (c : List ℕ) → all_differ bytes_eq xs ≡ true → list_any (bytes_eq c) xs ≡ false → all_differ bytes_eq (xs ++ c ∷ []) ≡ true
 one_more_differs [] c h e = refl
 one_more_differs (x ∷ xs) c h e =
     and_true (not (list_any (bytes_eq x) (xs ++ c ∷ []))) _
-    (is_not (list_any (bytes_eq x) (xs ++ c ∷ []))
-    (none_more x xs c (not_true (list_any (bytes_eq x) xs) (left_true (not (list_any (bytes_eq x) xs)) _ h)) (bytes_turned c x (left_false (bytes_eq c x) _ e))))
-    (one_more_differs xs c (right_true (not (list_any (bytes_eq x) xs)) _ h) (right_false (bytes_eq c x) _ e))
+    (not-is (list_any (bytes_eq x) (xs ++ c ∷ []))
+    (none_more x xs c (not-true (list_any (bytes_eq x) xs) (and_left (not (list_any (bytes_eq x) xs)) _ h)) (bytes_turned c x (or_left (bytes_eq c x) _ e))))
+    (one_more_differs xs c (and_right (not (list_any (bytes_eq x) xs)) _ h) (or_right (bytes_eq c x) _ e))
 
 not_full : (most n m : ℕ) → n + m ≤ most → 0 < m → nat_le most n ≡ false
 not_full most n m h some = grind (arith, nat_tests)
@@ -77,7 +46,7 @@ no_column n (c ∷ cs) name few h =
         → list_any (bytes_eq name) (map (λ (c : Column). c.name) (c ∷ cs)) ≡ false
     by_tests true is f e h later = absurd (cc (f))
     by_tests false true f e h later = absurd (cc (h))
-    by_tests false false f e h later = or_false (bytes_eq name c.name) _ (bytes_turned c.name name e) (later h)
+    by_tests false false f e h later = neither (bytes_eq name c.name) _ (bytes_turned c.name name e) (later h)
 
 no_table : (n : ℕ) (ts : List TableDef) (name : List ℕ) → n + length ts ≤ 4 → table_from n ts name ≡ None → list_any (bytes_eq name) (map (λ (t : TableDef). t.name) ts) ≡ false
 unfolding table_from
@@ -90,7 +59,7 @@ no_table n (t ∷ ts) name few h =
         → list_any (bytes_eq name) (map (λ (t : TableDef). t.name) (t ∷ ts)) ≡ false
     by_tests true is f e h later = absurd (cc (f))
     by_tests false true f e h later = absurd (cc (h))
-    by_tests false false f e h later = or_false (bytes_eq name t.name) _ (bytes_turned t.name name e) (later h)
+    by_tests false false f e h later = neither (bytes_eq name t.name) _ (bytes_turned t.name name e) (later h)
 
 pub columns_differ : (cs : List Column) (c : Column) → length cs ≤ 32 → column_named cs c.name ≡ None → all_differ bytes_eq (map (λ (c : Column). c.name) cs) ≡ true
     → all_differ bytes_eq (map (λ (c : Column). c.name) (cs ++ c ∷ [])) ≡ true

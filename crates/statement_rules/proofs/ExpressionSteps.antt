@@ -1,6 +1,6 @@
 -- What the words of an expression leave: one operand more, or another one on top.
 use Rattle.std.proofs.Common.{◌≡◌, ◌≤◌, ◌<◌, ◌+◌, ◌-◌, ℕ, zero, suc, pos, ◌^◌, min, max, not, ◌&&◌, ◌⊎◌, inl, inr, List, [], ◌∷◌, length, Bool, true, false, Option, Some, None, refl, sym, ap, subst, ◌∙◌, arith}
-use Rattle.std.specs.Prelude.{nat_lt, nat_le, is_some, slice_get, option_map, option_and_then, if◌then◌else◌}
+use Rattle.std.specs.Prelude.{nat_lt, nat_le, is_some, slice_get, option_map, option_and_then}
 use Rattle.std.proofs.lemmas.Bool.Decides.{nat_tests}
 use Rattle.sql_base.specs.Rows.{is_printable}
 use Rattle.sql_base.specs.declared.expressions.Expr.{Expr}
@@ -21,9 +21,10 @@ use Rattle.statement_draft.specs.declared.kinds.Op.{Op}
 use Rattle.statement_draft.specs.declared.kinds.Operand.{Operand}
 use Rattle.statement_draft.specs.declared.kinds.Operator.{Operator}
 use Rattle.statement_draft.specs.declared.kinds.Operator.TheVariants as operator
-use Rattle.statement_draft.proofs.Clean.{noted-none, not-false}
+use Rattle.statement_draft.proofs.Clean.{noted-none}
 use Rattle.statement_draft.proofs.Summaries.{binary_describes, negation_describes, number_describes, negative_describes, text_describes, name_describes}
 use Rattle.statement_rules.proofs.Listing.{place_within, below}
+use Rattle.sql_base.proofs.Truths.{max-itself, not-false}
 
 -- a tree is there, or it would be too deep
 abbrev pub Grown : Operand → Type 0
@@ -82,14 +83,11 @@ binary_grown o a b ga gb = by_test (nat_le 32 (max a.depth b.depth)) refl
     by_test true e = inr (deep_is (max a.depth b.depth) e)
     by_test false e = inl (all_trees (nat_le 32 (max a.depth b.depth)) o a.tree b.tree e (there a ga (low_left a.depth b.depth e)) (there b gb (low_right a.depth b.depth e)))
 
-same_max : (n : ℕ) → max n n ≡ n
-same_max n = grind (arith)
-
 negation_grown : (a : Operand) → Grown a → Grown (negation a)
 negation_grown a ga = by_test (nat_le 32 a.depth) refl
   where
     by_test : (t : Bool) → nat_le 32 a.depth ≡ t → Grown (negation a)
-    by_test true e = inr (ap (λ n. min 32 n + 1) (same_max a.depth) ∙ deep_is a.depth e)
+    by_test true e = inr (ap (λ n. min 32 n + 1) (max-itself a.depth) ∙ deep_is a.depth e)
     by_test false e = inl (one_tree (nat_le 32 a.depth) a.tree e (there a ga (low_one a.depth e)))
 
 binary_sound : (table : TableDef) (o : Op) (a b : Operand) → Sound table a → Sound table b → Sound table (binary o a b)

@@ -1,5 +1,5 @@
 -- What the rows of FIRST KEY leave: first keys that rise from above the least key.
-use Rattle.std.proofs.Common.{◌≡◌, ◌≤◌, ◌<◌, ◌+◌, ◌-◌, ℕ, not, ◌&&◌, List, [], ◌∷◌, ◌++◌, length, map, Bool, true, false, Option, Some, None, refl, sym, ap, subst, ◌∙◌, arith}
+use Rattle.std.proofs.Common.{◌≡◌, ◌≤◌, ◌<◌, ◌+◌, ◌-◌, ℕ, not, ◌&&◌, List, [], ◌∷◌, ◌++◌, length, map, Bool, true, false, Some, None, refl, sym, ap, subst, ◌∙◌, arith}
 use Rattle.std.specs.Prelude.{nat_le, is_some, replicate}
 use Rattle.std.specs.List.{AllByRecursion}
 use Rattle.std.proofs.lemmas.Bool.Decides.{nat_tests}
@@ -14,13 +14,13 @@ use Rattle.sql_base.specs.declared.tables.TableDef.{TableDef}
 use Rattle.sql_base.specs.declared.values.Value.{Value}
 use Rattle.statement_draft.specs.Faults.{noted}
 use Rattle.statement_draft.specs.TableEvents.{filled_key, row_first_key, first_keys_begin, first_key_ends}
-use Rattle.statement_draft.specs.declared.faults.Fault.{Fault}
 use Rattle.statement_draft.specs.declared.faults.Reason.TheVariants.{OverLimit, NotRising}
 use Rattle.statement_draft.specs.declared.draft.Draft.{Draft}
 use Rattle.statement_draft.specs.declared.draft.RowOf.TheVariants as row_of
 use Rattle.statement_draft.proofs.Clean.{noted-none}
-use Rattle.statement_rules.proofs.Listing.{all_more}
 use Rattle.statement_rules.proofs.States.{Declares, Declared, last_of, Firsting, Whole}
+use Rattle.sql_base.proofs.Lists.{all-push, all-weaker}
+use Rattle.statement_rules.proofs.Stays.{is_none}
 
 -- one key more, above the last
 rise_more : (k : List ℕ) (ks : List (List ℕ)) (new : List ℕ) → Rise (k ∷ ks) → key_lt (last_of k ks) new ≡ true → Rise (k ∷ (ks ++ new ∷ []))
@@ -30,10 +30,6 @@ rise_more k (next ∷ ks) new h e = (h.0, rise_more next ks new h.1 e)
 last_is : (k : List ℕ) (ks : List (List ℕ)) (new : List ℕ) → last_of k (ks ++ new ∷ []) ≡ new
 last_is k [] new = refl
 last_is k (next ∷ ks) new = last_is next ks new
-
-pub all_are : {X : Type 0} (P Q : X → Type 0) → ((x : X) → P x → Q x) → (xs : List X) → AllByRecursion P xs → AllByRecursion Q xs
-all_are P Q f [] h = h
-all_are P Q f (x ∷ xs) h = (f x h.0, all_are P Q f xs h.1)
 
 -- a predicate of a table doesn't look at its first keys
 same_predicate : (def : TableDef) (firsts : List (List Value)) (e : Expr) → IsExpr def OfTruth e → IsExpr (record def { firsts = firsts }) OfTruth e
@@ -64,10 +60,6 @@ firsts_begin d h = (
   (refl, refl),
 )
 
-no_fault : (first : Option Fault) → first ≡ None → is_some first ≡ false
-no_fault None h = refl
-no_fault (Some f) h = absurd (cc (h))
-
 above : (b c : Bool) → b ≡ false → not b && not c ≡ false → c ≡ true
 above false true h e = refl
 above false false h e = absurd (cc (e))
@@ -83,7 +75,7 @@ first_step d h for some leading clean =
     let counted = noted (nat_le 15 (parts_of d.tables + length def.firsts)) OverLimit d.row.at d.first in
     let outer = noted-none (not (is_some counted) && not (key_lt d.table.last (row_first_key d))) NotRising d.row.at counted clean in
     let room = (noted-none (nat_le 15 (parts_of d.tables + length def.firsts)) OverLimit d.row.at d.first outer.1).0 in
-    let rises = above (is_some counted) (key_lt d.table.last (row_first_key d)) (no_fault counted outer.1) outer.0 in
+    let rises = above (is_some counted) (key_lt d.table.last (row_first_key d)) (is_none counted outer.1) outer.0 in
     let key : row_first_key d ≡ first_key def values = width_is d h.1 (key_values (key_kinds def) values) in
     let up : key_lt (last_of zeros (first_keys def)) (first_key def values) ≡ true = ap (λ k. key_lt k (first_key def values)) (sym h.2.last) ∙ ap (key_lt d.table.last) (sym key) ∙ rises in
     let keys : first_keys def ++ first_key def values ∷ [] ≡ map (first_key def) (def.firsts ++ values ∷ []) = sym (map-append (first_key def) def.firsts (values ∷ [])) in
@@ -98,11 +90,11 @@ first_step d h for some leading clean =
           key = h.1.key;
           some = h.1.some;
           few_checks = h.1.few_checks;
-          checks = all_are (IsExpr def OfTruth) (IsExpr (record def { firsts = def.firsts ++ values ∷ [] }) OfTruth) (same_predicate def (def.firsts ++ values ∷ [])) def.checks h.1.checks;
+          checks = all-weaker (IsExpr def OfTruth) (IsExpr (record def { firsts = def.firsts ++ values ∷ [] }) OfTruth) (same_predicate def (def.firsts ++ values ∷ [])) def.checks h.1.checks;
         },
         record {
-          some = all_more (λ (first : List Value). 0 < length first) def.firsts values h.2.some some;
-          leading = all_more (λ (first : List Value). are_leading (key_kinds def) first ≡ true) def.firsts values h.2.leading leading;
+          some = all-push (λ (first : List Value). 0 < length first) def.firsts values h.2.some some;
+          leading = all-push (λ (first : List Value). are_leading (key_kinds def) first ≡ true) def.firsts values h.2.leading leading;
           rise = subst (λ (ks : List (List ℕ)). Rise (zeros ∷ ks)) keys (rise_more zeros (first_keys def) (first_key def values) h.2.rise up);
           last = key ∙ sym (last_is zeros (first_keys def) (first_key def values)) ∙ ap (last_of zeros) keys;
         },

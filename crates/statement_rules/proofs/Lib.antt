@@ -7,12 +7,12 @@ mod FirstSteps
 mod Listing
 mod LoadSteps
 mod PartContracts
-mod RowSteps
+pub mod RowSteps
 mod SessionParts
 mod SessionSteps
 mod StatementSteps
 mod States
-mod Stays
+pub mod Stays
 mod TableParts
 mod TableSteps
 mod WholeSteps

@@ -1,6 +1,6 @@
 -- Lists of places and names, and one more in them.
 use Rattle.std.proofs.Common.{◌≡◌, ℕ, ◌+◌, ◌<◌, ◌≤◌, ◌&&◌, ◌||◌, not, List, [], ◌∷◌, ◌++◌, length, map, Bool, true, false, Option, Some, None, refl, ap, ◌∙◌, arith}
-use Rattle.std.specs.Prelude.{nat_le, nat_eq, sum_by, slice_get, option_map, if◌then◌else◌}
+use Rattle.std.specs.Prelude.{nat_le, nat_eq, sum_by, slice_get, option_map}
 use Rattle.std.specs.List.{list_any, AllByRecursion, cons_option}
 use Rattle.std.specs.Str.{bytes_eq}
 use Rattle.std.proofs.lemmas.Bool.Decides.{nat_tests}
@@ -17,42 +17,12 @@ use Rattle.statement_draft.specs.StatementEvents.{Selected, places_from, select_
 use Rattle.statement_draft.specs.TableEvents.{column_bytes}
 use Rattle.statement_draft.specs.declared.draft.NameAt.{NameAt}
 use Rattle.statement_draft.specs.declared.faults.Fault.{Fault}
-
-pub or_none : (a b : Bool) → a ≡ false → b ≡ false → a || b ≡ false
-or_none false b h e = e
-or_none true b h e = absurd (cc (h))
-
-or_left : (a b : Bool) → a || b ≡ false → a ≡ false
-or_left true b h = h
-or_left false b h = refl
-
-or_right : (a b : Bool) → a || b ≡ false → b ≡ false
-or_right true b h = absurd (cc (h))
-or_right false b h = h
-
-pub both : (a b : Bool) → a ≡ true → b ≡ true → a && b ≡ true
-both true b h e = e
-both false b h e = absurd (cc (h))
-
-and_left : (a b : Bool) → a && b ≡ true → a ≡ true
-and_left true b h = refl
-and_left false b h = h
-
-and_right : (a b : Bool) → a && b ≡ true → b ≡ true
-and_right true b h = h
-and_right false b h = absurd (cc (h))
-
-not-true : (b : Bool) → not b ≡ true → b ≡ false
-not-true true h = absurd (cc (h))
-not-true false h = refl
-
-pub not-is : (b : Bool) → b ≡ false → not b ≡ true
-not-is true h = absurd (cc (h))
-not-is false h = refl
+use Rattle.sql_base.proofs.Truths.{and_left, and_right, and_true, neither, not-is, not-true, or_left, or_right}
+use Rattle.sql_base.proofs.Lists.{all-push}
 
 any_none : {A : Type 0} (f : A → Bool) (xs : List A) (c : A) → list_any f xs ≡ false → f c ≡ false → list_any f (xs ++ c ∷ []) ≡ false
-any_none f [] c h e = or_none (f c) false e refl
-any_none f (x ∷ xs) c h e = or_none (f x) _ (or_left (f x) _ h) (any_none f xs c (or_right (f x) _ h) e)
+any_none f [] c h e = neither (f c) false e refl
+any_none f (x ∷ xs) c h e = neither (f x) _ (or_left (f x) _ h) (any_none f xs c (or_right (f x) _ h) e)
 
 eq_turned : (m n : ℕ) → nat_eq m n ≡ false → nat_eq n m ≡ false
 eq_turned m n h = grind (arith, nat_tests, h)
@@ -61,14 +31,10 @@ eq_turned m n h = grind (arith, nat_tests, h)
 pub differ_more : (xs : List ℕ) (c : ℕ) → all_differ nat_eq xs ≡ true → list_any (nat_eq c) xs ≡ false → all_differ nat_eq (xs ++ c ∷ []) ≡ true
 differ_more [] c h e = refl
 differ_more (x ∷ xs) c h e =
-    both (not (list_any (nat_eq x) (xs ++ c ∷ []))) _
+    and_true (not (list_any (nat_eq x) (xs ++ c ∷ []))) _
     (not-is (list_any (nat_eq x) (xs ++ c ∷ []))
     (any_none (nat_eq x) xs c (not-true (list_any (nat_eq x) xs) (and_left (not (list_any (nat_eq x) xs)) _ h)) (eq_turned c x (or_left (nat_eq c x) _ e))))
     (differ_more xs c (and_right (not (list_any (nat_eq x) xs)) _ h) (or_right (nat_eq c x) _ e))
-
-pub all_more : {A : Type 0} (P : A → Type 0) (xs : List A) (x : A) → AllByRecursion P xs → P x → AllByRecursion P (xs ++ x ∷ [])
-all_more P [] x h p = (p, h)
-all_more P (y ∷ xs) x h p = (h.0, all_more P xs x h.1 p)
 
 chosen_place : (b : Bool) (n c : ℕ) (later : Option ℕ) → (if b then Some n else later) ≡ Some c → (later ≡ Some c → n ≤ c) → n ≤ c
 chosen_place true n c later h go = omega (arith, same n c h)
@@ -95,7 +61,7 @@ below c n h = omega (arith, h)
 
 pub key_more : (again : Bool) (n c : ℕ) (key : List ℕ) → again ≡ false → c < n → AllByRecursion (λ c. c < n) key → AllByRecursion (λ c. c < n) (if again then key else key ++ c ∷ [])
 key_more true n c key e l h = h
-key_more false n c key e l h = all_more (λ c. c < n) key c h l
+key_more false n c key e l h = all-push (λ c. c < n) key c h l
 
 pub key_differs : (again : Bool) (c : ℕ) (key : List ℕ) → list_any (nat_eq c) key ≡ again → all_differ nat_eq key ≡ true → all_differ nat_eq (if again then key else key ++ c ∷ []) ≡ true
 key_differs true c key e h = h
@@ -137,7 +103,7 @@ not_there m n (c ∷ cs) h = cases (nat_le 32 n) (not_there m (n + 1) cs (omega 
   where
     cases : (b : Bool) → list_any (nat_eq m) (places_from (n + 1) cs) ≡ false → list_any (nat_eq m) (if b then [] else n ∷ places_from (n + 1) cs) ≡ false
     cases true e = refl
-    cases false e = or_none (nat_eq m n) (list_any (nat_eq m) (places_from (n + 1) cs)) (grind (arith, nat_tests, h)) e
+    cases false e = neither (nat_eq m n) (list_any (nat_eq m) (places_from (n + 1) cs)) (grind (arith, nat_tests, h)) e
 
 pub places_differ : (n : ℕ) (cs : List Column) → all_differ nat_eq (places_from n cs) ≡ true
 unfolding places_from
@@ -146,7 +112,7 @@ places_differ n (c ∷ cs) = cases (nat_le 32 n) (places_differ (n + 1) cs)
   where
     cases : (b : Bool) → all_differ nat_eq (places_from (n + 1) cs) ≡ true → all_differ nat_eq (if b then [] else n ∷ places_from (n + 1) cs) ≡ true
     cases true e = refl
-    cases false e = both _ (all_differ nat_eq (places_from (n + 1) cs)) (not-is (list_any (nat_eq n) (places_from (n + 1) cs)) (not_there n (n + 1) cs (omega arith))) e
+    cases false e = and_true _ (all_differ nat_eq (places_from (n + 1) cs)) (not-is (list_any (nat_eq n) (places_from (n + 1) cs)) (not_there n (n + 1) cs (omega arith))) e
 
 found_differ : (c : Option ℕ) (at : ℕ) (s : Selected) → all_differ nat_eq s.columns ≡ true → all_differ nat_eq (select_found c at s).columns ≡ true
 found_differ None at s h = h

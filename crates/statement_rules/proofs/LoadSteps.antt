@@ -22,13 +22,15 @@ use Rattle.statement_draft.specs.declared.draft.RowOf.{RowOf}
 use Rattle.statement_draft.specs.declared.draft.RowOf.TheVariants as row_of
 use Rattle.statement_draft.specs.declared.faults.Fault.{Fault}
 use Rattle.statement_draft.specs.declared.faults.Reason.TheVariants.{UnknownName, Repeated, WrongType, OverLimit, NotRising, CheckFails}
-use Rattle.statement_draft.proofs.Clean.{noted-none, not-false}
-use Rattle.statement_rules.proofs.Listing.{all_more, differ_more}
+use Rattle.statement_draft.proofs.Clean.{noted-none}
+use Rattle.statement_rules.proofs.Listing.{differ_more}
 use Rattle.statement_rules.proofs.Listing.{table_within}
 use Rattle.statement_rules.proofs.Stays as stays
 use Rattle.statement_rules.proofs.RowSteps.{fits_row, row_of_kinds}
 use Rattle.statement_rules.proofs.TableSteps.{is_none}
 use Rattle.statement_rules.proofs.States.{Tabled, last_of, LoadsSound, Loading, LastKey, InLoadOf}
+use Rattle.sql_base.proofs.Truths.{not-false}
+use Rattle.sql_base.proofs.Lists.{all-push}
 
 pub unknown_none : (at : ℕ) (f : Option Fault) → noted true UnknownName at f ≡ None → ⊥
 unknown_none at f h = stays.unknown UnknownName at f h
@@ -138,10 +140,10 @@ loaded_row d h fits counts c is clean =
         new = h.new;
         of = h.of;
         kinds = h.kinds;
-        rows = all_more (IsRow table) d.load.rows row.values h.rows (row_of_kinds (kinds table) row.values (load_fits d h fits) (counted_all row (kinds table) h.kinds counts));
+        rows = all-push (IsRow table) d.load.rows row.values h.rows (row_of_kinds (kinds table) row.values (load_fits d h fits) (counted_all row (kinds table) h.kinds counts));
         rise = subst Rise keys risen.0;
         last = subst (LastKey (Some (key_of table row.values))) keys risen.1;
-        checks = all_more (λ (r : List Value). first_failing table.checks r ≡ None) d.load.rows row.values h.checks (is_none (first_failing table.checks row.values) passes);
+        checks = all-push (λ (r : List Value). first_failing table.checks r ≡ None) d.load.rows row.values h.checks (is_none (first_failing table.checks row.values) passes);
       },
       omega (arith, longer),
     )
@@ -181,7 +183,7 @@ load_step d l h some =
       tables = l.tables;
       some = l.some;
       loads = record {
-        all = all_more (IsLoad d.tables) d.loads load l.loads.all (h.table, h.there, some, (h.rows, h.rise), h.checks);
+        all = all-push (IsLoad d.tables) d.loads load l.loads.all (h.table, h.there, some, (h.rows, h.rise), h.checks);
         differ = loads_differ d.loads load l.loads.differ h.new;
       };
       sessions = l.sessions;

@@ -1,6 +1,6 @@
 -- What the words of a row leave: values that fit the kinds that they are for.
 use Rattle.std.proofs.Common.{◌≡◌, ◌≤◌, ◌<◌, ◌-◌, ℕ, zero, suc, pos, ◌^◌, min, ◌&&◌, ◌==◌, List, [], ◌∷◌, ◌++◌, length, Bool, true, false, Option, Some, None, refl, sym, ap, subst, ◌∙◌, arith}
-use Rattle.std.specs.Prelude.{nat_lt, nat_le, slice_get, replicate, option_and_then, if◌then◌else◌}
+use Rattle.std.specs.Prelude.{nat_lt, nat_le, slice_get, replicate, option_and_then}
 use Rattle.std.specs.Int.{is_in_range}
 use Rattle.std.proofs.lemmas.Bool.Decides.{nat_tests}
 use Rattle.std.proofs.lemmas.List.{length-append}
@@ -23,6 +23,8 @@ use Rattle.statement_draft.specs.declared.draft.RowOf.{RowOf}
 use Rattle.statement_draft.specs.declared.draft.RowOf.TheVariants as row_of
 use Rattle.statement_draft.proofs.Clean.{sooner-some}
 use Rattle.statement_draft.proofs.Summaries.{negative_fits}
+use Rattle.sql_base.proofs.Truths.{and_left, and_right, and_true}
+use Rattle.sql_base.proofs.RowFacts.{blanks-printable, padded-length}
 
 -- a value that a row may hold for a column: a literal of a key column, or what the column stores
 abbrev pub fits_one : RowOf → ColumnKind → Value → Bool
@@ -45,24 +47,12 @@ abbrev fits_at : RowOf → Option ColumnKind → Value → Bool
 fits_at of (Some kind) v = fits_one of kind v
 fits_at of None v = fits_past of
 
-true_both : (a b : Bool) → a ≡ true → b ≡ true → a && b ≡ true
-true_both true b h e = e
-true_both false b h e = absurd (cc (h))
-
-true_left : (a b : Bool) → a && b ≡ true → a ≡ true
-true_left true b h = refl
-true_left false b h = h
-
-true_right : (a b : Bool) → a && b ≡ true → b ≡ true
-true_right true b h = h
-true_right false b h = absurd (cc (h))
-
 fits_more : (of : RowOf) (kinds : List ColumnKind) (values : List Value) (v : Value) → fits_row of kinds values ≡ true → fits_at of (slice_get kinds (length values)) v ≡ true
     → fits_row of kinds (values ++ v ∷ []) ≡ true
-fits_more of (k ∷ kinds) [] v h e = true_both (fits_one of k v) true e refl
+fits_more of (k ∷ kinds) [] v h e = and_true (fits_one of k v) true e refl
 fits_more of [] [] v h e = e
 fits_more of (k ∷ kinds) (x ∷ values) v h e =
-    true_both (fits_one of k x) _ (true_left (fits_one of k x) _ h) (fits_more of kinds values v (true_right (fits_one of k x) _ h) e)
+    and_true (fits_one of k x) _ (and_left (fits_one of k x) _ h) (fits_more of kinds values v (and_right (fits_one of k x) _ h) e)
 fits_more of [] (x ∷ values) v h e = h
 
 -- a value as words give it
@@ -70,31 +60,21 @@ abbrev pub IsGiven : Value → Type 0
 IsGiven (value.Int n) = in_i64 n ≡ true
 IsGiven (value.Text text) = is_printable text ≡ true
 
-blanks_printable : (n : ℕ) → is_printable (replicate n 32) ≡ true
-blanks_printable zero = refl
-blanks_printable (suc n) = blanks_printable n
-
 printable_padded : (n : ℕ) (text : List ℕ) → is_printable text ≡ true → is_printable (padded n text) ≡ true
-printable_padded n text h = list_all-append (is_in_range 32 126) text (replicate (n - length text) 32) ∙ true_both (is_printable text) _ h (blanks_printable (n - length text))
+printable_padded n text h = list_all-append (is_in_range 32 126) text (replicate (n - length text) 32) ∙ and_true (is_printable text) _ h (blanks-printable (n - length text))
 
 length_blanks : (n : ℕ) → length {A = ℕ} (replicate n 32) ≡ n
 length_blanks zero = refl
 length_blanks (suc n) = let later = length_blanks n in omega (arith, later)
 
-length_padded : (n : ℕ) (text : List ℕ) → length text ≤ n → length (padded n text) ≡ n
-length_padded n text h =
-    let both = length-append text (replicate (n - length text) 32) in
-    let blanks = length_blanks (n - length text) in
-    omega (arith, both, blanks, h)
-
-no_reason : (b : Bool) (r : Reason) → (if b then Some r else None) ≡ None → b ≡ false
+pub no_reason : (b : Bool) (r : Reason) → (if b then Some r else None) ≡ None → b ≡ false
 no_reason true r h = absurd (cc (h))
 no_reason false r h = refl
 
 stored_text : (n : ℕ) (text : List ℕ) → is_printable text ≡ true → nat_lt n (length text) ≡ false → is_of_kind (Char n) (value.Text (padded n text)) ≡ true
 stored_text n text h short =
-    let long = length_padded n text (grind (arith, nat_tests, short)) in
-    true_both (length (padded n text) == n) _ (grind (arith, nat_tests, long)) (printable_padded n text h)
+    let long = padded-length n text (grind (arith, nat_tests, short)) in
+    and_true (length (padded n text) == n) _ (grind (arith, nat_tests, long)) (printable_padded n text h)
 
 literal_fits : (of : RowOf) (kind : Option ColumnKind) (v : Value) → IsGiven v → literal_fault of kind v ≡ None → fits_at of kind (filled of kind v) ≡ true
 literal_fits row_of.FirstKey None v g h = absurd (cc (h))
@@ -103,7 +83,7 @@ literal_fits row_of.FirstKey (Some Int) (value.Text text) g h = absurd (cc (h))
 literal_fits row_of.FirstKey (Some (Char n)) (value.Int m) g h = absurd (cc (h))
 literal_fits row_of.FirstKey (Some (Char n)) (value.Text text) g h =
     let short = no_reason (nat_lt n (length text)) _ h in
-    true_both (nat_le (length text) n) _ (grind (arith, nat_tests, short)) g
+    and_true (nat_le (length text) n) _ (grind (arith, nat_tests, short)) g
 literal_fits row_of.Load None (value.Int n) g h = refl
 literal_fits row_of.Load None (value.Text text) g h = refl
 literal_fits row_of.Load (Some Int) (value.Int n) g h = g
@@ -123,19 +103,19 @@ row_of_kinds [] [] h e = refl
 row_of_kinds (k ∷ kinds) [] h e = absurd (omega (arith, e))
 row_of_kinds [] (v ∷ values) h e = absurd (omega (arith, e))
 row_of_kinds (k ∷ kinds) (v ∷ values) h e =
-    true_both (is_of_kind k v) _ (true_left (is_of_kind k v) _ h) (row_of_kinds kinds values (true_right (is_of_kind k v) _ h) (omega (arith, e)))
+    and_true (is_of_kind k v) _ (and_left (is_of_kind k v) _ h) (row_of_kinds kinds values (and_right (is_of_kind k v) _ h) (omega (arith, e)))
 
 pub row_for_insert : (kinds : List ColumnKind) (values : List Value) → fits_row row_of.Insert kinds values ≡ true → fits_row row_of.Load kinds values ≡ true
 row_for_insert kinds [] h = refl
 row_for_insert [] (v ∷ values) h = refl
 row_for_insert (k ∷ kinds) (v ∷ values) h =
-    true_both (is_of_kind k v) _ (true_left (is_of_kind k v) _ h) (row_for_insert kinds values (true_right (is_of_kind k v) _ h))
+    and_true (is_of_kind k v) _ (and_left (is_of_kind k v) _ h) (row_for_insert kinds values (and_right (is_of_kind k v) _ h))
 
 pub row_of_literals : (kinds : List ColumnKind) (values : List Value) → fits_row row_of.FirstKey kinds values ≡ true → are_leading kinds values ≡ true
 row_of_literals kinds [] h = refl
 row_of_literals [] (v ∷ values) h = h
 row_of_literals (k ∷ kinds) (v ∷ values) h =
-    true_both (is_literal_of k v) _ (true_left (is_literal_of k v) _ h) (row_of_literals kinds values (true_right (is_literal_of k v) _ h))
+    and_true (is_literal_of k v) _ (and_left (is_literal_of k v) _ h) (row_of_literals kinds values (and_right (is_literal_of k v) _ h))
 
 -- values more in the row, and nothing else but faults
 pub record RowStep (d e : Draft) : Type 0 where
@@ -180,7 +160,7 @@ steps d e g s t =
           (subst (λ (r : NewRow). fits_row d.row.of kinds r.values ≡ true) (sym row_is) (s.fits kinds h f))));
     }
 
-as_none : (r : Option Reason) (at : ℕ) (f : Option Fault) → noted_as r at f ≡ None → r ≡ None
+pub as_none : (r : Option Reason) (at : ℕ) (f : Option Fault) → noted_as r at f ≡ None → r ≡ None
 as_none None at f h = refl
 as_none (Some r) at f h = absurd (sooner-some f _ h)
 

@@ -1,6 +1,6 @@
 -- What sessions, works and statements leave.
 use Rattle.std.proofs.Common.{◌≡◌, ◌≤◌, ◌<◌, ◌+◌, ◌*◌, ℕ, zero, suc, min, List, [], ◌∷◌, ◌++◌, length, Bool, true, false, Option, Some, None, refl, sym, ap, subst, ◌∙◌, arith}
-use Rattle.std.specs.Prelude.{nat_lt, nat_le, sum_by, slice_get, option_map, if◌then◌else◌}
+use Rattle.std.specs.Prelude.{nat_lt, nat_le, sum_by, slice_get, option_map}
 use Rattle.std.specs.List.{AllByRecursion}
 use Rattle.std.proofs.lemmas.Bool.Decides.{nat_tests}
 use Rattle.std.proofs.lemmas.List.{length-append}
@@ -19,11 +19,12 @@ use Rattle.statement_draft.specs.declared.draft.StatementKind.{StatementKind}
 use Rattle.statement_draft.specs.declared.draft.StatementKind.TheVariants as statement_kind
 use Rattle.statement_draft.specs.declared.faults.Reason.TheVariants.{OverLimit}
 use Rattle.statement_draft.proofs.Clean.{noted-none}
-use Rattle.statement_rules.proofs.Listing.{all_more}
 use Rattle.statement_rules.proofs.Stays.{work_counted}
 use Rattle.statement_rules.proofs.LoadSteps.{found_table, unknown_none}
 use Rattle.statement_rules.proofs.ExpressionSteps.{Sees}
 use Rattle.statement_rules.proofs.States.{Loading, WorkSound, Sessioned, Between, Working, Stating, Known}
+use Rattle.sql_base.proofs.Truths.{plus-none}
+use Rattle.sql_base.proofs.Lists.{all-push}
 
 -- before the first session
 pub sessions_begin : (d : Draft) → Loading d → Between d
@@ -83,9 +84,6 @@ work_step at d h clean =
       tt,
     )
 
-only_one : (n m : ℕ) → n + (0 + m) ≡ n + m
-only_one n m = omega arith
-
 -- COMMIT WORK or ROLLBACK WORK
 pub work_ended : (d : Draft) → Stating d → Working 0 (work_ends d) × (0 < length (work_ends d).session)
 work_ended d h =
@@ -102,7 +100,7 @@ work_ended d h =
         counted = omega (arith, counted, longer);
         within = h.0.within;
         statements = h.0.statements;
-        works = all_more (WorkSound d.tables) d.session work h.0.works h.1;
+        works = all-push (WorkSound d.tables) d.session work h.0.works h.1;
       },
       omega (arith, longer),
     )
@@ -119,17 +117,17 @@ session_ended d h some =
     let counted = h.counted in
     let longer = length-append d.sessions (d.session ∷ []) in
     let sum = sum_by-append (λ (works : List Work). length works) d.sessions (d.session ∷ []) in
-    let one = only_one (sum_by (λ (works : List Work). length works) d.sessions) (length d.session) in
+    let one = plus-none (sum_by (λ (works : List Work). length works) d.sessions) (length d.session) in
     kept_session (nat_lt (length d.sessions) 8) d (grind (arith, nat_tests, few)) (record {
       limits = h.limits;
       tables = h.tables;
       some = h.some;
       loads = h.loads;
       few = omega (arith, longer, few);
-      some_works = all_more (λ (works : List Work). 0 < length works) d.sessions d.session h.some_works some;
+      some_works = all-push (λ (works : List Work). 0 < length works) d.sessions d.session h.some_works some;
       counted = omega (arith, sum, one, counted);
       within = h.within;
-      statements = all_more (λ (works : List Work). AllByRecursion (WorkSound d.tables) works) d.sessions d.session h.statements h.works;
+      statements = all-push (λ (works : List Work). AllByRecursion (WorkSound d.tables) works) d.sessions d.session h.statements h.works;
     })
 
 -- ---- statements
@@ -151,7 +149,7 @@ statement_ended d h s =
     let statement = statement_of d.statement.kind k.place d.statement d.row.values in
     let kept : statement_ends d ≡ statement_kept (Some k.place) d = ap (λ o. statement_kept o d) k.named in
     let there : slice_get d.tables (table_of statement) ≡ Some k.table = ap (slice_get d.tables) (place_of d.statement.kind k.place d.statement d.row.values) ∙ k.there in
-    subst Stating (sym kept) (h.0, all_more (IsStatement d.tables) d.work statement h.1 (k.table, there, s.1))
+    subst Stating (sym kept) (h.0, all-push (IsStatement d.tables) d.work statement h.1 (k.table, there, s.1))
 
 -- the name of a statement's table
 pub known : (name : List ℕ) (at : ℕ) (d : Draft) → (table_came name at d).first ≡ None → Known (table_came name at d)

@@ -1,6 +1,6 @@
 -- What SELECT lists, filters and assignments leave.
 use Rattle.std.proofs.Common.{◌≡◌, ◌≤◌, ◌<◌, ◌+◌, ℕ, zero, suc, min, ◌||◌, List, [], ◌∷◌, ◌++◌, length, map, Bool, true, false, Option, Some, None, refl, sym, ap, subst, ◌∙◌, arith}
-use Rattle.std.specs.Prelude.{nat_lt, nat_le, nat_eq, is_some, slice_get, flat_map, option_map, option_and_then, if◌then◌else◌}
+use Rattle.std.specs.Prelude.{nat_lt, nat_le, nat_eq, is_some, slice_get, flat_map, option_map, option_and_then}
 use Rattle.std.specs.Int.{w16, to_be_bytes}
 use Rattle.std.specs.List.{AllByRecursion, list_any}
 use Rattle.std.proofs.lemmas.Bool.Decides.{nat_tests}
@@ -21,7 +21,7 @@ use Rattle.statement_draft.specs.Describing.{meant}
 use Rattle.statement_draft.specs.declared.draft.Scope.{Scope}
 use Rattle.statement_draft.specs.declared.draft.Scope.TheVariants as scope
 use Rattle.statement_draft.specs.Expressions.{columns_in, whole, no_expression, expression_begins, expression_judged, filter_ends}
-use Rattle.statement_draft.specs.Faults.{noted, noted_as}
+use Rattle.statement_draft.specs.Faults.{noted}
 use Rattle.statement_draft.specs.Names.{is_long, column_named}
 use Rattle.statement_draft.specs.StatementEvents.{Selected, select_found, selected, selected_from, places_from, names_judged, table_came, select_table_came, where_came, statement_table, set_found, set_in, set_named, set_came, set_fault, set_kind, assigned, assign_ends, sets_end}
 use Rattle.statement_draft.specs.declared.draft.Draft.{Draft}
@@ -29,20 +29,22 @@ use Rattle.statement_draft.specs.declared.draft.NameAt.{NameAt}
 use Rattle.statement_draft.specs.declared.draft.NewExpression.{NewExpression}
 use Rattle.statement_draft.specs.declared.draft.NewStatement.{NewStatement}
 use Rattle.statement_draft.specs.declared.faults.Fault.{Fault}
-use Rattle.statement_draft.specs.declared.faults.Reason.{Reason}
 use Rattle.statement_draft.specs.declared.faults.Reason.TheVariants.{TextTooLong, UnknownName, Repeated, WrongType, OverLimit}
 use Rattle.statement_draft.specs.declared.kinds.Kind.{Kind}
 use Rattle.statement_draft.specs.declared.kinds.Kind.TheVariants as kind
 use Rattle.statement_draft.specs.declared.kinds.Operand.{Operand}
-use Rattle.statement_draft.proofs.Clean.{noted-none, sooner-some}
+use Rattle.statement_draft.proofs.Clean.{noted-none}
 use Rattle.statement_draft.proofs.Kept.{as_one}
-use Rattle.statement_rules.proofs.Listing.{all_more, differ_more, place_within, below}
+use Rattle.statement_rules.proofs.Listing.{differ_more, place_within, below}
 use Rattle.statement_rules.proofs.Listing.{names_differ}
 use Rattle.statement_rules.proofs.Stays as stays
 use Rattle.statement_rules.proofs.ExpressionSteps.{Sees}
 use Rattle.statement_rules.proofs.WholeSteps.{Begun, Expressed, expressed, predicate}
 use Rattle.statement_rules.proofs.SessionSteps.{known, known_sees}
 use Rattle.statement_rules.proofs.States.{Known, SetsSound}
+use Rattle.statement_rules.proofs.RowSteps.{as_none, no_reason as no_long}
+use Rattle.sql_base.proofs.Truths.{counted as most, or_left, or_right}
+use Rattle.sql_base.proofs.Lists.{all-push}
 
 -- ---- SELECT lists
 
@@ -93,7 +95,7 @@ found_within cs name (Some c) at s e h = by_again (list_any (nat_eq c) s.columns
   where
     by_again : (again : Bool) → AllByRecursion (λ c. c < length cs) (if again then s.columns else s.columns ++ c ∷ [])
     by_again true = h
-    by_again false = all_more (λ c. c < length cs) s.columns c h (below c (length cs) (place_within 0 cs name c e))
+    by_again false = all-push (λ c. c < length cs) s.columns c h (below c (length cs) (place_within 0 cs name c e))
 
 all_within : (cs : List Column) (names : List NameAt) (s : Selected) → AllByRecursion (λ c. c < length cs) s.columns → AllByRecursion (λ c. c < length cs) (selected_from cs names s).columns
 unfolding selected_from
@@ -234,14 +236,6 @@ set_step name at d k sets clean =
           sets = sets;
         }
 
-no_reason : (r : Option Reason) (at : ℕ) (f : Option Fault) → noted_as r at f ≡ None → r ≡ None
-no_reason None at f h = refl
-no_reason (Some r) at f h = absurd (sooner-some f _ h)
-
-no_long : (b : Bool) (r : Reason) → (if b then Some r else None) ≡ None → b ≡ false
-no_long true r h = absurd (cc (h))
-no_long false r h = refl
-
 -- a value without fault can be stored
 stores : (column : ColumnKind) (k : Kind) → set_fault (Some column) (Some k) ≡ None → Stores column (meant k)
 stores Int kind.Number h = tt
@@ -251,23 +245,12 @@ stores (Char n) kind.Number h = absurd (cc (h))
 stores (Char n) (kind.Text m) h = let short = no_long (nat_lt n m) TextTooLong h in grind (arith, nat_tests, short)
 stores (Char n) kind.Truth h = absurd (cc (h))
 
-no_or : (a b : Bool) → a || b ≡ false → a ≡ false
-no_or true b h = h
-no_or false b h = refl
-
-or_no : (a b : Bool) → a || b ≡ false → b ≡ false
-or_no true b h = absurd (cc (h))
-or_no false b h = h
-
-most : (limit d m : ℕ) → d ≡ min (limit + 1) m → nat_lt limit d ≡ false → m ≤ limit
-most limit d m e h = grind (arith, nat_tests, e, h)
-
 -- a whole expression without fault is one of its kind
 expression_is : (table : TableDef) (x : Operand) (t : Expr) (k : Kind) → Expressed table x → x.tree ≡ Some t → x.kind ≡ Some k → IsExpr table (meant k) t
 expression_is table x t k h is kinded = let d = h.describes t is in record {
   typed = d.typed ∙ ap (option_map meant) kinded;
-  depth = most 32 x.depth (depth_of t) d.depth (no_or _ _ h.small);
-  code = most 8192 x.code (length (code_of t)) d.code (or_no _ _ h.small);
+  depth = most 32 x.depth (depth_of t) d.depth (or_left _ _ h.small);
+  code = most 8192 x.code (length (code_of t)) d.code (or_right _ _ h.small);
 }
 
 there_is : {A : Type 0} (o : Option A) → is_some o ≡ true → (x : A) × (o ≡ Some x)
@@ -321,7 +304,7 @@ assign_of e k set x clean =
     ap (option_and_then (λ c. option_and_then (λ (y : TableDef). option_map (λ (z : Column). z.kind) (slice_get y.columns c)) (statement_table e))) set.column
     ∙ ap (option_and_then (λ (y : TableDef). option_map (λ (z : Column). z.kind) (slice_get y.columns set.c))) tables_is
     ∙ ap (option_map (λ (z : Column). z.kind)) column.1 in
-    let right = no_reason (set_fault (set_kind e) value.kind) e.statement.column_at (expression_judged e).first clean in
+    let right = as_none (set_fault (set_kind e) value.kind) e.statement.column_at (expression_judged e).first clean in
     let fault_none : set_fault (Some column.0.kind) (Some kd.0) ≡ None = ap (λ o. set_fault o (Some kd.0)) (sym set_kind_is) ∙ ap (set_fault (set_kind e)) (sym kd.1) ∙ right in
     let new : Assign = record { column = set.c; value = t.0 } in
     let sets_are : (assign_ends e).statement.sets ≡ e.statement.sets ++ new ∷ [] = assigned_one e.statement.column value.tree e.statement.sets set.c t.0 set.column t.1 in
@@ -331,7 +314,7 @@ assign_of e k set x clean =
     record {
       sets = record {
         each = subst (AllByRecursion (IsAssign table)) (sym sets_are)
-            (all_more (IsAssign table) e.statement.sets new S.each (column.0.kind, meant kd.0, kind_at, set.free, stores column.0.kind kd.0 fault_none, expression_is table value t.0 kd.0 x t.1 kd.1));
+            (all-push (IsAssign table) e.statement.sets new S.each (column.0.kind, meant kd.0, kind_at, set.free, stores column.0.kind kd.0 fault_none, expression_is table value t.0 kd.0 x t.1 kd.1));
         columns = ap (map (λ (y : Assign). y.column)) sets_are ∙ map-append (λ (y : Assign). y.column) e.statement.sets (new ∷ []) ∙ ap (λ (l : List ℕ). l ++ set.c ∷ []) S.columns ∙ sym set.columns;
         differ = subst (λ (l : List ℕ). all_differ nat_eq l ≡ true) (sym set.columns) (differ_more set.before set.c S.differ set.new);
         code = code_counted e.statement.code value.code (length (sets_code e.statement.sets)) (length (code_of t.0)) (length (sets_code (e.statement.sets ++ new ∷ []))) S.code described.code (code_more e.statement.sets new)

@@ -1,6 +1,6 @@
 -- What the words of a table leave.
 use Rattle.std.proofs.Common.{◌≡◌, ◌≤◌, ◌<◌, ◌+◌, ℕ, min, not, ◌&&◌, ◌||◌, List, [], ◌∷◌, ◌++◌, length, Bool, true, false, Option, Some, None, refl, sym, ap, subst, ◌∙◌, arith}
-use Rattle.std.specs.Prelude.{nat_eq, nat_lt, nat_le, is_some, sum_by, slice_get, if◌then◌else◌}
+use Rattle.std.specs.Prelude.{nat_eq, nat_lt, nat_le, is_some, sum_by, slice_get}
 use Rattle.std.specs.List.{AllByRecursion, list_any}
 use Rattle.std.proofs.lemmas.Bool.Decides.{nat_tests}
 use Rattle.std.proofs.lemmas.List.{length-append, map-append}
@@ -19,19 +19,13 @@ use Rattle.statement_draft.specs.Names.{is_long, is_wide, column_named, table_na
 use Rattle.statement_draft.specs.TableEvents.{table_begins, table_came, column_came, kind_came, width_came, added_up_to, column_bytes, key_column_found, key_column_came, table_ends}
 use Rattle.statement_draft.specs.declared.faults.Reason.TheVariants.{NumberTooWide, UnknownName, Repeated, OverLimit}
 use Rattle.statement_draft.specs.declared.draft.Draft.{Draft}
-use Rattle.statement_draft.proofs.Clean.{noted-none, not-false, lies}
-use Rattle.statement_rules.proofs.Listing.{all_more, place_within, below, key_more, key_differs}
+use Rattle.statement_draft.proofs.Clean.{noted-none, lies}
+use Rattle.statement_rules.proofs.Listing.{place_within, below, key_more, key_differs}
 use Rattle.statement_rules.proofs.Listing.{bytes_more}
 use Rattle.statement_rules.proofs.Differing.{columns_differ, tables_differ}
 use Rattle.statement_rules.proofs.States.{TablesSound, Tabled, Room, kinds_in, ColumnsSound, NextColumn, InColumns, Columning, KeySound, Keying, Declared, Whole}
-
-left_no : (a b : Bool) → a || b ≡ false → a ≡ false
-left_no true b h = h
-left_no false b h = refl
-
-right_no : (a b : Bool) → a || b ≡ false → b ≡ false
-right_no true b h = absurd (cc (h))
-right_no false b h = h
+use Rattle.sql_base.proofs.Truths.{not-false, or_left, or_right, plus-none}
+use Rattle.sql_base.proofs.Lists.{all-push}
 
 pub is_none : {A : Type 0} (o : Option A) → is_some o ≡ false → o ≡ None
 is_none None h = refl
@@ -48,8 +42,8 @@ pub record MayBegin (tables : List TableDef) : Type 0 where
 pub may_begin : (at : ℕ) (d : Draft) → (table_begins at d).first ≡ None → MayBegin d.tables
 may_begin at d h =
     let no = (noted-none (nat_le 4 (length d.tables) || nat_le 16 (parts_of d.tables)) OverLimit at d.first h).0 in
-    let few = left_no (nat_le 4 (length d.tables)) (nat_le 16 (parts_of d.tables)) no in
-    let parts = right_no (nat_le 4 (length d.tables)) (nat_le 16 (parts_of d.tables)) no in
+    let few = or_left (nat_le 4 (length d.tables)) (nat_le 16 (parts_of d.tables)) no in
+    let parts = or_right (nat_le 4 (length d.tables)) (nat_le 16 (parts_of d.tables)) no in
     record { few = grind (arith, nat_tests, few); parts = grind (arith, nat_tests, parts) }
 
 -- its name
@@ -71,9 +65,9 @@ column_named_so name at d is h =
     let inner = noted full OverLimit at d.first in
     let outer = noted-none (is_some (column_named columns name)) Repeated at inner h in
     let fits = (noted-none full OverLimit at d.first outer.1).0 in
-    let room = right_no (is_long name) (nat_le 32 (length columns)) fits in
+    let room = or_right (is_long name) (nat_le 32 (length columns)) fits in
     record {
-      short = short_name name is (left_no (is_long name) (nat_le 32 (length columns)) fits);
+      short = short_name name is (or_left (is_long name) (nat_le 32 (length columns)) fits);
       new = is_none (column_named columns name) outer.0;
       room = grind (arith, nat_tests, room);
     }
@@ -82,14 +76,11 @@ kept_column : (b : Bool) (cs : List Column) (x : Column) (w : ℕ) → b ≡ tru
 kept_column true cs x w h s = s
 kept_column false cs x w h s = absurd (cc (h))
 
-only : (n m : ℕ) → n + (0 + m) ≡ n + m
-only n m = omega arith
-
 row_more : (cs : List Column) (x : Column) → sum_by width (kinds_in (cs ++ x ∷ [])) ≡ sum_by width (kinds_in cs) + width x.kind
 row_more cs x =
     ap (sum_by width) (map-append (λ (c : Column). c.kind) cs (x ∷ []))
     ∙ sum_by-append width (kinds_in cs) (x.kind ∷ [])
-    ∙ only (sum_by width (kinds_in cs)) (width x.kind)
+    ∙ plus-none (sum_by width (kinds_in cs)) (width x.kind)
 
 column_added : (cs : List Column) (x : Column) (w n : ℕ) → ColumnsSound cs w → NextColumn cs x.name → IsWidth x.kind → width x.kind ≤ n
     → nat_lt 256 (added_up_to 256 w n) ≡ false → ColumnsSound (if nat_lt (length cs) 32 then cs ++ x ∷ [] else cs) (added_up_to 256 w n)
@@ -100,9 +91,9 @@ column_added cs x w n s next is le fits =
     let old = s.counted in
     kept_column (nat_lt (length cs) 32) cs x (added_up_to 256 w n) (grind (arith, nat_tests, room)) (record {
       few = omega (arith, longer, room);
-      names = all_more (λ (c : Column). IsShortName c.name) cs x s.names next.short;
+      names = all-push (λ (c : Column). IsShortName c.name) cs x s.names next.short;
       differ = columns_differ cs x s.few next.new s.differ;
-      widths = subst (AllByRecursion IsWidth) (sym (map-append (λ (c : Column). c.kind) cs (x ∷ []))) (all_more IsWidth (kinds_in cs) x.kind s.widths is);
+      widths = subst (AllByRecursion IsWidth) (sym (map-append (λ (c : Column). c.kind) cs (x ∷ []))) (all-push IsWidth (kinds_in cs) x.kind s.widths is);
       counted = grind (arith, nat_tests, more, old, le, fits);
       bytes = grind (arith, nat_tests, more, old, le, fits);
     })
@@ -228,7 +219,7 @@ some_table true tables def h = let longer = length-append tables (def ∷ []) in
 some_table false tables def h = absurd (cc (h))
 
 parts_more : (tables : List TableDef) (def : TableDef) → parts_of (tables ++ def ∷ []) ≡ parts_of tables + (length def.firsts + 1)
-parts_more tables def = sum_by-append (λ (t : TableDef). length t.firsts + 1) tables (def ∷ []) ∙ only (parts_of tables) (length def.firsts + 1)
+parts_more tables def = sum_by-append (λ (t : TableDef). length t.firsts + 1) tables (def ∷ []) ∙ plus-none (parts_of tables) (length def.firsts + 1)
 
 pub table_kept : (d : Draft) → Whole d → Tabled (table_ends d)
 table_kept d w =
@@ -242,7 +233,7 @@ table_kept d w =
         limits = w.0.limits;
         tables = kept_table (nat_lt (length d.tables) 4) d.tables d.table.def test (record {
           few = omega (arith, longer, few);
-          all = all_more IsTable d.tables d.table.def w.0.tables.all w.1;
+          all = all-push IsTable d.tables d.table.def w.0.tables.all w.1;
           differ = tables_differ d.tables d.table.def w.0.tables.few room.new w.0.tables.differ;
           parts = omega (arith, more, parts);
         });

@@ -20,10 +20,9 @@ use Rattle.statement_draft.specs.declared.kinds.Kind.TheVariants as kind
 use Rattle.statement_draft.specs.declared.kinds.Operand.{Operand}
 use Rattle.statement_draft.proofs.Clean.{noted-none, sooner-some}
 use Rattle.statement_draft.proofs.Wholes.{whole_is_predicate}
-use Rattle.statement_rules.proofs.Listing.{all_more}
-use Rattle.statement_rules.proofs.FirstSteps.{all_are}
 use Rattle.statement_rules.proofs.ExpressionSteps.{Sound, Sees, sees_kept, OneMore, expression_of}
 use Rattle.statement_rules.proofs.States.{Declares, Declared}
+use Rattle.sql_base.proofs.Lists.{all-push, all-weaker}
 
 -- a whole expression without fault
 pub record Expressed (table : TableDef) (x : Operand) : Type 0 where
@@ -89,7 +88,7 @@ predicate d e b table at sees clean tree h =
 
 all_listed : (P : Expr → Type 0) (t : Option Expr) (cs : List Expr) → AllByRecursion P cs → ((e : Expr) → t ≡ Some e → P e) → AllByRecursion P (listed t cs)
 all_listed P None cs h f = h
-all_listed P (Some e) cs h f = all_more P cs e h (f e refl)
+all_listed P (Some e) cs h f = all-push P cs e h (f e refl)
 
 few_listed : (t : Option Expr) (cs : List Expr) → length cs < 8 → length (listed t cs) ≤ 8
 few_listed None cs h = omega (arith, h)
@@ -111,7 +110,7 @@ with_checks tables def row_bytes key_bytes checks h few all = record {
   key = h.key;
   some = h.some;
   few_checks = few;
-  checks = all_are (IsExpr def OfTruth) (IsExpr (record def { checks = checks }) OfTruth) (same_check def checks) checks all;
+  checks = all-weaker (IsExpr def OfTruth) (IsExpr (record def { checks = checks }) OfTruth) (same_check def checks) checks all;
 }
 
 -- what was known before the words of an expression is still so

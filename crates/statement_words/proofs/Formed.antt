@@ -9,7 +9,7 @@ use Rattle.std.proofs.lemmas.Bool.{ltb-false}
 use Rattle.std.proofs.lemmas.List.Sums.{take_while-cons}
 use Rattle.std.proofs.lemmas.List.Folds.{list_all-append}
 use Rattle.std.proofs.lemmas.Bool.Decides.{nat_tests}
-use Rattle.sql_base.specs.Names.{IsName, is_name_byte, is_keyword, begins_with_letter}
+use Rattle.sql_base.specs.Names.{is_name_byte, is_keyword, begins_with_letter}
 use Rattle.sql_base.specs.Names as base
 use Rattle.sql_base.specs.Rows.{is_printable}
 use Rattle.statement_words.specs.declared.faults.WordFault.{WordFault}
@@ -24,6 +24,7 @@ use Rattle.statement_words.specs.Reading.{Place, fails, Gives}
 use Rattle.statement_words.specs.Spans.{IsFormed, IsFormedWord}
 use Rattle.statement_words.specs.Words.{Piece, Words, keyword_or_name, name_at, decimal, number_at, Inside, TextState, TextStep, text_step, text_from, text_goes, text_ends, text_at, sign, less_at, greater_at, sign_at, word_at, is_separator, with_word, fresh, words_step, words_from, words_of}
 use Rattle.statement_words.proofs.Pieces.{chosen, bound}
+use Rattle.sql_base.proofs.RowFacts.{alphabetic_in_name}
 
 -- ---- keywords
 
@@ -60,9 +61,6 @@ passing p (b ∷ bs) = by_test (p b) refl (passing p bs)
 
 begins : (b : ℕ) (bs : List ℕ) → is_name_byte b ≡ true → is_ascii_alphabetic b ≡ true → begins_with_letter (take_while is_name_byte (b ∷ bs)) ≡ true
 begins b bs h letter = rw (take_while-cons is_name_byte b bs, h) letter
-
-alphabetic_in_name : (b : ℕ) → is_ascii_alphabetic b ≡ true → is_name_byte b ≡ true
-alphabetic_in_name b h = grind (arith, nat_tests)
 
 named : (bytes : List ℕ) (found : Option Keyword) → keyword_of bytes ≡ found → begins_with_letter bytes ≡ true → list_all is_name_byte bytes ≡ true
     → IsFormedWord (keyword_or_name found bytes)

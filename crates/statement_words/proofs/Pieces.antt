@@ -21,6 +21,7 @@ use Rattle.statement_words.specs.Keywords.{spelling, keywords, keyword_of}
 use Rattle.statement_words.specs.Reading.{Place, fails, ◌>>=◌}
 use Rattle.statement_words.specs.Spans.{IsWritten, sign_spelling, quoted}
 use Rattle.statement_words.specs.Words.{Piece, keyword_or_name, name_at, decimal, number_at, Inside, TextState, TextStep, text_step, text_from, text_goes, text_ends, text_at, sign, less_at, greater_at, sign_at, word_at}
+use Rattle.sql_base.proofs.RowFacts.{alphabetic_in_name}
 
 -- a word on the first bytes, one at least
 pub record IsPiece (bytes : List ℕ) (x : Piece) : Type 0 where
@@ -56,9 +57,6 @@ keyword_of-some bytes k h = (bytes_eq-Decides bytes (spelling k)).0 (find_passes
 named : (bytes : List ℕ) (found : Option Keyword) → keyword_of bytes ≡ found → IsWritten (keyword_or_name found bytes) bytes
 named bytes None h = refl
 named bytes (Some k) h = keyword_of-some bytes k h
-
-alphabetic_in_name : (b : ℕ) → is_ascii_alphabetic b ≡ true → is_name_byte b ≡ true
-alphabetic_in_name b h = grind (arith, nat_tests)
 
 name_piece : (b : ℕ) (bs : List ℕ) (x : Piece) → is_ascii_alphabetic b ≡ true → name_at (b ∷ bs) ≡ Ok x → IsPiece (b ∷ bs) x
 unfolding name_at

@@ -14,11 +14,11 @@ use Rattle.sql_base.specs.declared.values.Value.{Value}
 use Rattle.key_sequenced.specs.Cells.{AreCells}
 use Rattle.partition_map.specs.Map.{part_of}
 use Rattle.partition_state.specs.State.{State, new_cell, opening}
-use Rattle.quantum_core.proofs.Windows.{all-filter}
 use Rattle.run_record.specs.Openings.{openings_from, rows_in_part}
 use Rattle.serial_laws.proofs.Opened.{sound-opening}
 use Rattle.step_world.specs.Openings.{AreOpened, is_opened, table_openings}
 use Rattle.step_world.specs.declared.processes.DiskProcess.{DiskProcess}
+use Rattle.sql_base.proofs.Lists.{all-filter}
 
 -- the keys of rows are those of their cells
 rise_rows : (table : TableDef) (rows : List (List Value)) → AreCells (map (new_cell table) rows) → Rise (map (key_of table) rows)

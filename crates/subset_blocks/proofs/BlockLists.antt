@@ -1,22 +1,11 @@
 -- Lists of blocks, and lists at all, through each change.
-use Rattle.std.proofs.Common.{◌≡◌, ℕ, List, [], ◌∷◌, ◌++◌, Bool, true, false, ◌||◌, cond, eqb, refl, ap, sym, ◌∙◌, arith, subst}
+use Rattle.std.proofs.Common.{◌≡◌, ℕ, List, [], ◌∷◌, ◌++◌, Bool, true, false, ◌||◌, cond, eqb, refl, ap, ◌∙◌, subst}
 use Rattle.std.specs.Prelude.{filter, find, Option, Some}
 use Rattle.std.specs.List.{AllByRecursion, list_any}
-use Rattle.std.proofs.lemmas.Bool.{false≢true}
-use Rattle.std.proofs.lemmas.Bool.Decides.{nat_tests}
 use Rattle.sql_base.specs.declared.key_ranges.Start.TheVariants.{After}
 use Rattle.subset_blocks.specs.Blocks.{gone_on, advanced, NumbersDiffer}
 use Rattle.subset_blocks.specs.declared.Numbered.{Numbered}
-
--- what holds of each element holds of each of those that a filter keeps
-pub kept-filter : {X : Type 0} (P : X → Type 0) (p : X → Bool) (xs : List X) → AllByRecursion P xs → AllByRecursion P (filter p xs)
-kept-filter P p [] h = tt
-kept-filter P p (x ∷ xs) h =
-    elim (p x) as (λ b. AllByRecursion P (cond b (x ∷ filter p xs) (filter p xs))) [ true ↦ (h.0, kept-filter P p xs h.1) | false ↦ kept-filter P p xs h.1 ]
-
-pub kept-push : {X : Type 0} (P : X → Type 0) (xs : List X) (x : X) → AllByRecursion P xs → P x → AllByRecursion P (xs ++ x ∷ [])
-kept-push P [] x h hx = (hx, tt)
-kept-push P (y ∷ xs) x h hx = (h.0, kept-push P xs x h.1 hx)
+use Rattle.sql_base.proofs.Truths.{eqb-swapped, or_left, or_right}
 
 found_at : {X : Type 0} (P : X → Type 0) (x y : X) (rest : Option X) (b : Bool) → P y → (rest ≡ Some x → P x) → cond b (Some y) rest ≡ Some x → P x
 found_at P x y rest true h later e = let same : y ≡ x = cc in subst P same h
@@ -25,14 +14,6 @@ found_at P x y rest false h later e = later e
 pub found_has : {X : Type 0} (P : X → Type 0) (p : X → Bool) (xs : List X) (x : X) → AllByRecursion P xs → find p xs ≡ Some x → P x
 found_has P p [] x h e = absurd (cc)
 found_has P p (y ∷ xs) x h e = found_at P x y (find p xs) (p y) h.0 (λ later. found_has P p xs x h.1 later) e
-
-or_left : (a b : Bool) → (a || b) ≡ false → a ≡ false
-or_left true b h = h
-or_left false b h = refl
-
-or_right : (a b : Bool) → (a || b) ≡ false → b ≡ false
-or_right true b h = absurd (false≢true (sym h))
-or_right false b h = h
 
 none-filter : {X : Type 0} (test p : X → Bool) (xs : List X) → list_any test xs ≡ false → list_any test (filter p xs) ≡ false
 none-filter test p [] h = refl
@@ -50,13 +31,10 @@ none-push : {W : Type 0} (n : ℕ) (blocks : List (Numbered W)) (b : Numbered W)
 none-push n [] b h e = rw e refl
 none-push n (x ∷ blocks) b h e = rw (or_left (eqb x.number n) _ h) (none-push n blocks b (or_right (eqb x.number n) _ h) e)
 
-swapped : (m n : ℕ) → eqb m n ≡ false → eqb n m ≡ false
-swapped m n h = grind (arith, nat_tests)
-
 pub NumbersDiffer-push : {W : Type 0} (blocks : List (Numbered W)) (b : Numbered W) → NumbersDiffer blocks → list_any (λ c. eqb c.number b.number) blocks ≡ false → NumbersDiffer (blocks ++ b ∷ [])
 NumbersDiffer-push [] b h free = (refl, tt)
 NumbersDiffer-push (x ∷ blocks) b h free =
-    (none-push x.number blocks b h.0 (swapped x.number b.number (or_left (eqb x.number b.number) _ free)), NumbersDiffer-push blocks b h.1 (or_right (eqb x.number b.number) _ free))
+    (none-push x.number blocks b h.0 (eqb-swapped x.number b.number (or_left (eqb x.number b.number) _ free)), NumbersDiffer-push blocks b h.1 (or_right (eqb x.number b.number) _ free))
 
 abbrev restarted : {W : Type 0} → List ℕ → Numbered W → Numbered W
 restarted last b = record b { block = record b.block { start = After last } }

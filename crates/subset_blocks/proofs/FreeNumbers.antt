@@ -7,6 +7,7 @@ use Rattle.std.proofs.lemmas.Bool.Decides.{nat_tests}
 use Rattle.std.proofs.lemmas.List.Filters.{length-filter_both}
 use Rattle.subset_blocks.specs.Blocks.{free_number}
 use Rattle.subset_blocks.specs.declared.Numbered.{Numbered}
+use Rattle.sql_base.proofs.Truths.{not-false, not-true}
 
 -- the number is that of a block
 abbrev has : {W : Type 0} → List (Numbered W) → ℕ → Bool
@@ -73,18 +74,10 @@ none_passes : (p : ℕ → Bool) (a count : ℕ) → find p (range_with_len a co
 none_passes p a zero h k low high = absurd (omega arith)
 none_passes p a (suc count) h k low high = none_passes_at p a count k low high (p a) refl h (λ e lower. none_passes p (a + 1) count e k lower (omega arith))
 
-not_false : (b : Bool) → not b ≡ false → b ≡ true
-not_false true h = refl
-not_false false h = absurd (false≢true (sym h))
-
-not_true : (b : Bool) → not b ≡ true → b ≡ false
-not_true true h = absurd (false≢true h)
-not_true false h = refl
-
 free_at : {W : Type 0} (blocks : List (Numbered W)) (found : Option ℕ) → find (is_free blocks) (range_with_len 1 (length blocks + 1)) ≡ found → has blocks (unwrap_or found 0) ≡ false
-free_at blocks (Some n) e = not_true (has blocks n) (find-passes (is_free blocks) (range_with_len 1 (length blocks + 1)) n e)
+free_at blocks (Some n) e = not-true (has blocks n) (find-passes (is_free blocks) (range_with_len 1 (length blocks + 1)) n e)
 free_at blocks None e =
-    let taken = all_taken (length blocks + 1) blocks (λ k low high. not_false (has blocks k) (none_passes (is_free blocks) 1 (length blocks + 1) e k low (omega arith))) in
+    let taken = all_taken (length blocks + 1) blocks (λ k low high. not-false (has blocks k) (none_passes (is_free blocks) 1 (length blocks + 1) e k low (omega arith))) in
     absurd (omega arith)
 
 -- no block has the free number

@@ -7,6 +7,7 @@ use Rattle.std.specs.List.{list_any}
 use Rattle.sql_base.specs.declared.key_ranges.Start.TheVariants.{After}
 use Rattle.subset_blocks.specs.Blocks.{gone_on, advanced, NumbersDiffer}
 use Rattle.subset_blocks.specs.declared.Numbered.{Numbered}
+use Rattle.sql_base.proofs.Truths.{or_left, or_right}
 
 gone_on-same : {W : Type 0} (n : ℕ) (last : List ℕ) (b : Numbered W) → b.number ≡ n → gone_on n last b ≡ record b { block = record b.block { start = After last } }
 gone_on-same n last b e = rw (eq-eqb b.number n e) refl
@@ -14,20 +15,12 @@ gone_on-same n last b e = rw (eq-eqb b.number n e) refl
 gone_on-other : {W : Type 0} (n : ℕ) (last : List ℕ) (b : Numbered W) → eqb b.number n ≡ false → gone_on n last b ≡ b
 gone_on-other n last b e = rw e refl
 
-or_false-left : (a b : Bool) → (a || b) ≡ false → a ≡ false
-or_false-left true b h = h
-or_false-left false b h = refl
-
-or_false-right : (a b : Bool) → (a || b) ≡ false → b ≡ false
-or_false-right true b h = absurd (cc)
-or_false-right false b h = h
-
 -- where no block has the number, nothing goes on
 pub advanced-none : {W : Type 0} (n : ℕ) (last : List ℕ) (blocks : List (Numbered W)) → list_any (λ b. eqb b.number n) blocks ≡ false → advanced n last blocks ≡ blocks
 advanced-none n last [] h = refl
 advanced-none n last (b ∷ blocks) h =
-    ap (λ c. c ∷ map (gone_on n last) blocks) (gone_on-other n last b (or_false-left (eqb b.number n) _ h))
-    ∙ ap (λ bs. b ∷ bs) (advanced-none n last blocks (or_false-right (eqb b.number n) _ h))
+    ap (λ c. c ∷ map (gone_on n last) blocks) (gone_on-other n last b (or_left (eqb b.number n) _ h))
+    ∙ ap (λ bs. b ∷ bs) (advanced-none n last blocks (or_right (eqb b.number n) _ h))
 
 -- a block before one of the number has another number
 before_it : {W : Type 0} (n : ℕ) (x : Numbered W) (blocks : List (Numbered W)) (i : ℕ) (b : Numbered W) (t : Bool) → eqb x.number n ≡ t → list_any (λ c. eqb c.number x.number) blocks ≡ false → i < length blocks → b ≡ get_or blocks i b → b.number ≡ n → t ≡ false

@@ -1,11 +1,11 @@
 -- The code of a SET list, as it is written.
-use Rattle.std.proofs.Common.{◌≡◌, ◌≤◌, ◌<◌, ◌++◌, ℕ, ◌+◌, zero, suc, List, [], ◌∷◌, length, take, get_or, map, Some, Bool, true, false, refl, ap, sym, subst, ◌∙◌, arith}
-use Rattle.std.specs.Prelude.{flat_map, nat_eq, slice_get, ◌||◌}
+use Rattle.std.proofs.Common.{◌≡◌, ◌≤◌, ◌<◌, ◌++◌, ℕ, ◌+◌, List, [], ◌∷◌, length, take, get_or, map, Bool, true, false, refl, ap, sym, ◌∙◌, arith}
+use Rattle.std.specs.Prelude.{flat_map, nat_eq, ◌||◌}
 use Rattle.std.specs.List.{AllByRecursion, list_any}
 use Rattle.std.proofs.lemmas.Bool.{eqb-true}
 use Rattle.std.proofs.lemmas.List.{append-nil, append_assoc, length-append, length-map, take_more}
 use Rattle.std.proofs.lemmas.List.Concat.{flat_map-append}
-use Rattle.std.proofs.lemmas.Option.{same_Some, slice_get_within}
+use Rattle.std.proofs.lemmas.Option.{slice_get_within}
 use Rattle.sql_base.specs.Codes.{code_of, counted}
 use Rattle.sql_base.specs.Rows.{kinds}
 use Rattle.sql_base.specs.Tables.{AreSets, IsAssign}
@@ -15,11 +15,6 @@ use Rattle.sql_base.specs.declared.tables.TableDef.{TableDef}
 use Rattle.predicate_codes.proofs.ExactSets.{entry}
 use Rattle.update_expressions.proofs.Differing.{few}
 use Rattle.update_expressions.proofs.Refused.{column_of}
-
-pub each_at : {A : Type 0} (P : A → Type 0) (xs : List A) (i : ℕ) (x : A) → AllByRecursion P xs → slice_get xs i ≡ Some x → P x
-each_at P [] i x each at = absurd (cc)
-each_at P (y ∷ xs) zero x each at = subst P (same_Some y x at) each.0
-each_at P (y ∷ xs) (suc i) x each at = each_at P xs i x each.1 at
 
 module _ (table : TableDef) where
   column_within : (set : Assign) → IsAssign table set → set.column < length table.columns

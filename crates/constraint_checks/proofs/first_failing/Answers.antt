@@ -1,10 +1,11 @@
 use Rattle.std.proofs.Common.{rules, List, map, ◌≡◌, ◌+◌, true, false, sym, ap, ◌∙◌}
 use Rattle.std.specs.Option.{is_some}
-use Rattle.sql_base.specs.OnRows.{first_failing}
+use Rattle.sql_base.specs.OnRows.{first_failing, judged}
 use Rattle.sql_base.specs.Val.{val}
 use Rattle.predicate_runner.specs.Outlines.{Checked}
-use Rattle.constraint_checks.specs.Judging.{judged, tree_of}
-use Rattle.constraint_checks.proofs.Failing.{at_place, or_later-some, or_later-none}
+use Rattle.constraint_checks.specs.Judging.{tree_of}
+use Rattle.sql_base.proofs.Failing.{or_later-some, or_later-none}
+use Rattle.constraint_checks.proofs.Failing.{at_place}
 use Rattle.constraint_checks.proofs.first_failing.Goals as goal
 
 pub returns-then-is_some : goal.returns-then-is_some

@@ -2,9 +2,9 @@ use Rattle.std.proofs.Common.{rules, ◌≡◌, ◌<◌, true, false, length, ge
 use Rattle.std.specs.Option.{is_some}
 use Rattle.std.proofs.lemmas.List.{get_or_default}
 use Rattle.sql_base.specs.Keys.{key_eq}
-use Rattle.one_thread.proofs.Parts.{same_key}
 use Rattle.one_thread.proofs.Spots.{above_new, above_same, below_front}
 use Rattle.one_thread.proofs.inserting.spot_of.Goals as goal
+use Rattle.sql_base.proofs.Orderings.{key_eq-same}
 
 pub returns-then-not-is_eq : goal.returns-then-not-is_eq
 returns-then-not-is_eq c =
@@ -33,7 +33,7 @@ returns-in-Some c =
       at,
       lt,
       λ d. let here : found ≡ get_or cells at d = c.index-cells-at.is ∙ get_or_default cells at found d lt in
-          (ap (λ x. x.key) (sym here) ∙ same_key found.key key equal, ap (λ x. is_some x.row) (sym here) ∙ full),
+          (ap (λ x. x.key) (sym here) ∙ key_eq-same found.key key equal, ap (λ x. is_some x.row) (sym here) ∙ full),
     )
 
 pub returns-in-None : goal.returns-in-None
@@ -45,7 +45,7 @@ returns-in-None c =
     let lt : at < length cells = omega (arith, c.count_below-at.ensures.within, c.if-at-cells.false) in
     let equal : key_eq found.key key ≡ true = search rules in
     let empty : is_some found.row ≡ false = ap is_some c.in-None.is in
-    let same : found.key ≡ key = same_key found.key key equal in (
+    let same : found.key ≡ key = key_eq-same found.key key equal in (
       lt,
       λ d. let here : found ≡ get_or cells at d = c.index-cells-at.is ∙ get_or_default cells at found d lt in
           (ap (λ x. x.key) (sym here) ∙ same, ap (λ x. is_some x.row) (sym here) ∙ empty),

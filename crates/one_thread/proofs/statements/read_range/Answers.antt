@@ -2,9 +2,9 @@ use Rattle.std.proofs.Common.{◌≡◌, ◌-◌, ◌++◌, take, drop, ap, sym,
 use Rattle.std.specs.Prelude.{IfOk}
 use Rattle.std.specs.List.{AllByRecursion}
 use Rattle.one_thread.specs.Scans.{HasColumns, Reads}
-use Rattle.one_thread.proofs.Parts.{all_left, all_right}
 use Rattle.one_thread.proofs.Splitting.{have_columns, reads_in, splits}
 use Rattle.one_thread.proofs.statements.read_range.Goals as goal
+use Rattle.sql_base.proofs.Lists.{all_left, all_right}
 
 pub read_cells-requires : goal.read_cells-requires
 read_cells-requires c =

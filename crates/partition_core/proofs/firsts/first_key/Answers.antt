@@ -2,8 +2,8 @@ use Rattle.std.proofs.Common.{◌≡◌, ◌≤◌, ◌++◌, length, Some, ap, 
 use Rattle.std.specs.Prelude.{slice_get}
 use Rattle.std.proofs.lemmas.Option.{slice_get_read}
 use Rattle.sql_base.specs.Rows.{key_kinds, key_value}
-use Rattle.partition_core.proofs.FirstKeys.{kinds-length, leading-few, literals_more, no_literals}
 use Rattle.partition_core.proofs.firsts.first_key.Goals as goal
+use Rattle.sql_base.proofs.RowFacts.{kinds-length, leading-few, literals_more, no_literals}
 
 pub loop-at-init : goal.loop-at-init
 loop-at-init c = c.new-key.ensures.items ∙ sym (no_literals (key_kinds c.args.table.now))

@@ -1,7 +1,7 @@
 use Rattle.std.proofs.Common.{◌≤◌, length, arith}
 use Rattle.sql_base.specs.Rows.{key_kinds}
-use Rattle.partition_cuts.proofs.Steps.{widths_done, widths_more}
 use Rattle.partition_cuts.proofs.firsts.key_width.Goals as goal
+use Rattle.sql_base.proofs.RowFacts.{widths_done, widths_more}
 
 pub loop-at-preserved : goal.loop-at-preserved
 loop-at-preserved c = omega (arith, c.loop-at.invariant, c.width_of-sum.ensures, widths_more (key_kinds c.args.table.now) c.loop-at.at c.key_kind.result c.key_kind.ensures)

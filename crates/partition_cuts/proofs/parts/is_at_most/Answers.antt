@@ -5,8 +5,8 @@ use Rattle.std.specs.Ordering.{is_le, nat_cmp, ordering_then}
 use Rattle.std.proofs.lemmas.Option.{slice_get_read}
 use Rattle.sql_base.specs.Rows.{key_kinds}
 use Rattle.partition_cuts.proofs.Comparing.{compared_at, first-long, literal_at, tail_end, tail_from, tail_wide, wide_at}
-use Rattle.partition_cuts.proofs.Steps.{kinds-length, leading-few}
 use Rattle.partition_cuts.proofs.parts.is_at_most.Goals as goal
+use Rattle.sql_base.proofs.RowFacts.{kinds-length, leading-few}
 
 pub loop-at-init : goal.loop-at-init
 loop-at-init c = (refl, c.requires.long ∙ sym (first-long c.args.table.now c.args.first.now c.requires.leading))

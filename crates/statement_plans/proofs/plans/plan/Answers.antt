@@ -4,8 +4,9 @@ use Rattle.std.proofs.lemmas.Option.{slice_get-get_or}
 use Rattle.sql_base.specs.Scripts.{parts_of}
 use Rattle.sql_base.specs.Tables.{table_of}
 use Rattle.statement_plans.proofs.Sents.{plan_is}
-use Rattle.statement_plans.proofs.Tables.{parts_within, place_lt}
+use Rattle.statement_plans.proofs.Tables.{place_lt}
 use Rattle.statement_plans.proofs.plans.plan.Goals as goal
+use Rattle.sql_base.proofs.RowFacts.{parts_within}
 
 pub plan_on-requires-clause-firsts : goal.plan_on-requires-clause-firsts
 plan_on-requires-clause-firsts c =

@@ -2,11 +2,11 @@ use Rattle.std.proofs.Common.{rules, ◌≡◌, ◌<◌, ◌∷◌, ◌++◌, []
 use Rattle.std.proofs.lemmas.Option.{slice_get_read}
 use Rattle.sql_base.specs.Rows.{IsRow}
 use Rattle.partition_map.specs.Map.{part_of}
-use Rattle.plans_laws.proofs.Opened.{all_at}
 use Rattle.ranges_laws.proofs.Ranges.{keys_are_keys}
 use Rattle.step_world.proofs.OpenTables.{row_elsewhere, row_here}
 use Rattle.step_world.proofs.openings.rows_at.Goals as goal
 use Rattle.step_world.proofs.openings.rows_at.Goals.{then-part_of-place+in_ok-copy_of+in_ok-push, else-part_of-place}
+use Rattle.sql_base.proofs.Lists.{all_at}
 
 pub part_of-requires-clause-long : goal.part_of-requires-clause-long
 part_of-requires-clause-long c =

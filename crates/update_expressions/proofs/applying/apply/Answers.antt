@@ -13,15 +13,15 @@ use Rattle.sql_base.specs.declared.values.Value.{Value}
 use Rattle.predicate_runner.specs.Items.{item_in}
 use Rattle.update_expressions.specs.Entries.{set_in}
 use Rattle.update_expressions.proofs.Applied.{assigned-faults, assigned-goes, set_at}
-use Rattle.update_expressions.proofs.Written.{each_at}
 use Rattle.update_expressions.proofs.applying.apply.Goals as goal
+use Rattle.sql_base.proofs.Lists.{all_at}
 
 pub run-requires : goal.run-requires
 run-requires c =
     let sets = c.sets-assignments.result.now in
     let given = c.requires in
     let each : AllByRecursion (IsAssign given.0) (map set_in sets) = subst (AllByRecursion (IsAssign given.0)) (sym c.sets-assignments.ensures) given.1.each in
-    let assign = each_at (IsAssign given.0) (map set_in sets) c.loop-set.set-index (set_in c.set-item.result) each (set_at sets c.loop-set.set-index c.set-item.result c.loop-set-test.true c.set-item.is) in
+    let assign = all_at (IsAssign given.0) (map set_in sets) c.loop-set.set-index (set_in c.set-item.result) each (set_at sets c.loop-set.set-index c.set-item.result c.loop-set-test.true c.set-item.is) in
     (given.0, assign.1, assign.5, given.2)
 
 pub bounds-old-column : goal.bounds-old-column
@@ -29,7 +29,7 @@ bounds-old-column c =
     let sets = c.sets-assignments.result.now in
     let given = c.requires in
     let each : AllByRecursion (IsAssign given.0) (map set_in sets) = subst (AllByRecursion (IsAssign given.0)) (sym c.sets-assignments.ensures) given.1.each in
-    let assign = each_at (IsAssign given.0) (map set_in sets) c.loop-set.set-index (set_in c.set-item.result) each (set_at sets c.loop-set.set-index c.set-item.result c.loop-set-test.true c.set-item.is) in
+    let assign = all_at (IsAssign given.0) (map set_in sets) c.loop-set.set-index (set_in c.set-item.result) each (set_at sets c.loop-set.set-index c.set-item.result c.loop-set-test.true c.set-item.is) in
     let within = slice_get_within (kinds given.0) c.set-item.result.column assign.0 assign.2 in
     omega (arith, within, are_of_kinds-length (kinds given.0) c.args.row.now given.2, ap length c.values-old.ensures)
 
@@ -54,7 +54,7 @@ loop-set-preserved c = (
       let old = c.values-old.result.now in
       let set = c.set-item.result in
       let there = set_at sets c.loop-set.set-index set c.loop-set-test.true c.set-item.is in
-      let assign = each_at (IsAssign table) (map set_in sets) c.loop-set.set-index (set_in set) are.each there in
+      let assign = all_at (IsAssign table) (map set_in sets) c.loop-set.set-index (set_in set) are.each there in
       let within = slice_get_within (kinds table) set.column assign.0 assign.2 in
       let before : slice_get old set.column ≡ Some c.index-old-column.result = slice_get_read old (length old) set.column c.index-old-column.result refl (omega (arith, within, are_of_kinds-length (kinds table) old is_old)) c.index-old-column.is in
       let value : val set.value.tree old ≡ Ok (item_in c.in-Ok.item) = ap (val set.value.tree) c.values-old.ensures ∙ sym c.in-Ok.ensures in
@@ -68,6 +68,6 @@ put-requires c =
     let sets = c.sets-assignments.result.now in
     let given = c.requires in
     let each : AllByRecursion (IsAssign given.0) (map set_in sets) = subst (AllByRecursion (IsAssign given.0)) (sym c.sets-assignments.ensures) given.1.each in
-    let assign = each_at (IsAssign given.0) (map set_in sets) c.loop-set.set-index (set_in c.set-item.result) each (set_at sets c.loop-set.set-index c.set-item.result c.loop-set-test.true c.set-item.is) in
+    let assign = all_at (IsAssign given.0) (map set_in sets) c.loop-set.set-index (set_in c.set-item.result) each (set_at sets c.loop-set.set-index c.set-item.result c.loop-set-test.true c.set-item.is) in
     let within = slice_get_within (kinds given.0) c.set-item.result.column assign.0 assign.2 in
     omega (arith, within, are_of_kinds-length (kinds given.0) c.args.row.now given.2, ap length c.values-old.ensures, c.loop-set.invariant.0)

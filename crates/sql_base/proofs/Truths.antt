@@ -1,0 +1,82 @@
+-- Facts of truth values, tests and numbers that several crates need.
+use Rattle.std.proofs.Common.{◌&&◌, ◌*◌, ◌+◌, ◌-◌, ◌<◌, ◌||◌, ◌≡◌, ◌≤◌, Bool, Some, arith, cond, eqb, false, max, min, not, refl, suc, sym, true, ℕ}
+use Rattle.std.proofs.Math.Nat.{mul-le-mul_right}
+use Rattle.std.proofs.lemmas.Bool.{false≢true}
+use Rattle.std.proofs.lemmas.Bool.Decides.{nat_tests}
+use Rattle.std.specs.Prelude.{nat_le, nat_lt}
+
+pub some-same : {A : Type 0} (x y : A) → Some x ≡ Some y → x ≡ y
+some-same x y e = cc
+
+pub plus-one : (n : ℕ) → 1 + n ≡ suc n
+plus-one n = omega arith
+
+pub or_left : (a b : Bool) → (a || b) ≡ false → a ≡ false
+or_left true b h = h
+or_left false b h = refl
+
+pub or_right : (a b : Bool) → (a || b) ≡ false → b ≡ false
+or_right true b h = absurd (false≢true (sym h))
+or_right false b h = h
+
+pub cond-alike : {A : Type 0} (b : Bool) (x : A) → cond b x x ≡ x
+cond-alike true x = refl
+cond-alike false x = refl
+
+pub eqb-swapped : (m n : ℕ) → eqb m n ≡ false → eqb n m ≡ false
+eqb-swapped m n h = grind (arith, nat_tests)
+
+pub not-true : (b : Bool) → not b ≡ true → b ≡ false
+not-true true h = absurd cc
+not-true false h = refl
+
+pub le-max : (a b : ℕ) → a ≤ max a b
+le-max a b = omega arith
+
+pub not_le-above : (stamp floor : ℕ) → nat_le stamp floor ≡ false → floor < stamp
+not_le-above stamp floor h = grind (arith, nat_tests)
+
+pub if_not_true : (b : Bool) → (b ≡ true → ⊥) → b ≡ false
+if_not_true true h = absurd (h refl)
+if_not_true false h = refl
+
+pub times-fewer : (n m k : ℕ) → n ≤ m → m * k ≤ 1000 → n * k ≤ 1000
+times-fewer n m k le most = omega (arith, mul-le-mul_right k le, most)
+
+pub not-false : (b : Bool) → not b ≡ false → b ≡ true
+not-false true h = refl
+not-false false h = absurd (cc)
+
+pub max-itself : (n : ℕ) → max n n ≡ n
+max-itself n = grind (arith)
+
+pub counted : (most d m : ℕ) → d ≡ min (most + 1) m → nat_lt most d ≡ false → m ≤ most
+counted most d m e h = grind (arith, nat_tests, e, h)
+
+pub neither : (a b : Bool) → a ≡ false → b ≡ false → a || b ≡ false
+neither true b ha hb = ha
+neither false b ha hb = hb
+
+pub first_two : (a b c : Bool) → a || (b || c) ≡ false → b || a ≡ false
+first_two true b c h = absurd (cc)
+first_two false true c h = absurd (cc)
+first_two false false c h = refl
+
+pub and_left : (a b : Bool) → a && b ≡ true → a ≡ true
+and_left true b h = refl
+and_left false b h = h
+
+pub and_right : (a b : Bool) → a && b ≡ true → b ≡ true
+and_right true b h = h
+and_right false b h = absurd (cc (h))
+
+pub and_true : (a b : Bool) → a ≡ true → b ≡ true → a && b ≡ true
+and_true true b h e = e
+and_true false b h e = absurd (cc (h))
+
+pub not-is : (b : Bool) → b ≡ false → not b ≡ true
+not-is true h = absurd (cc (h))
+not-is false h = refl
+
+pub plus-none : (n m : ℕ) → n + (0 + m) ≡ n + m
+plus-none n m = omega arith
