@@ -26,7 +26,7 @@ use Rattle.dp_messages.specs.declared.replies.Reply.TheVariants.{Ended, Failed, 
 use Rattle.dp_messages.specs.declared.requests.Ask.TheVariants as ask
 use Rattle.key_sequenced.specs.Cells.{AreCells, Keyed, records}
 use Rattle.key_sequenced.specs.declared.Cell.{Cell}
-use Rattle.one_thread.specs.One.{fault_on, new_row_fault}
+use Rattle.one_thread.specs.One.{fault_on, new_row_fault, statement_fault}
 use Rattle.partition_state.specs.State.{State, with_live}
 use Rattle.partition_state.specs.Step.{Answered, after_first, after_next, against_granule, are_columns_here, as_row, begins, by_kind, first_quantum, goes_on, is_key_here, kept_key, refused, set_work, step}
 use Rattle.predicate_codes.specs.Decoding.{filter_of}
@@ -40,7 +40,6 @@ use Rattle.quantum_core.specs.declared.verdicts.Effect.TheVariants.{Goes}
 use Rattle.quantum_core.specs.declared.works.Doing.TheVariants as doing
 use Rattle.quantum_core.specs.declared.works.SetWork.{SetWork}
 use Rattle.quantum_core.proofs.Walking.{as_judged}
-use Rattle.run_record.specs.Tiles.{statement_fault}
 use Rattle.session_grammar.specs.Plans.{filter_code}
 use Rattle.subset_blocks.specs.Blocks.{find_block}
 use Rattle.subset_blocks.specs.declared.Block.{Block}

@@ -17,10 +17,10 @@ use Rattle.sql_base.specs.declared.statements.Statement.TheVariants.{Select, Upd
 use Rattle.sql_base.specs.declared.tables.TableDef.{TableDef}
 use Rattle.sql_base.specs.declared.values.Value.{Value}
 use Rattle.key_sequenced.specs.Cells.{Keyed}
-use Rattle.one_thread.specs.One.{Done, done_unless, fault_on, first_fault, new_row_fault, one_on}
+use Rattle.one_thread.specs.One.{Done, done_unless, fault_on, first_fault, new_row_fault, one_on, statement_fault}
 use Rattle.partition_map.specs.Map.{part_of}
 use Rattle.range_finder.specs.Range.{is_in, range}
-use Rattle.run_record.specs.Tiles.{FaultFree, statement_fault}
+use Rattle.run_record.specs.Tiles.{FaultFree}
 use Rattle.run_record.proofs.EntryLists.{all_joined}
 use Rattle.serial_passes.specs.Pieces.{AreOf, in_range}
 use Rattle.serial_passes.proofs.Blocks.{AreKeyed, ranged, rows_in}

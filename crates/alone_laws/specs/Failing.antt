@@ -1,4 +1,5 @@
 -- How a statement fails in a partition.
+use Rattle.one_thread.specs.One.{statement_fault}
 use Rattle.std.specs.Prelude.{◌≡◌, ℕ, List, ◌∷◌, ◌++◌, Some, filter, ◌&&◌}
 use Rattle.std.specs.List.{AllByRecursion}
 use Rattle.sql_base.specs.Keys.{is_from, key_le}
@@ -7,7 +8,7 @@ use Rattle.sql_base.specs.declared.key_ranges.Start.{Start}
 use Rattle.sql_base.specs.declared.statements.Statement.{Statement}
 use Rattle.sql_base.specs.declared.tables.TableDef.{TableDef}
 use Rattle.key_sequenced.specs.Cells.{Keyed}
-use Rattle.run_record.specs.Tiles.{FaultFree, statement_fault}
+use Rattle.run_record.specs.Tiles.{FaultFree}
 
 -- among the records of a span, this is the first that faults
 pub record Fails (table : TableDef) (statement : Statement) (start : Start) (high : List ℕ) (held : List Keyed) (key : List ℕ) (fault : Fault) : Type 0 where

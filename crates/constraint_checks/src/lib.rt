@@ -4,7 +4,7 @@
 ghost use Rattle.std.specs.Prelude.{◌≡◌, ◌<◌, ◌^◌, length, map, All, IfOk};
 ghost use Rattle.std.specs.List.{AllByRecursion};
 ghost use Rattle.sql_base.specs.Kinds.{Kind, OfTruth, IsExpr};
-ghost use Rattle.sql_base.specs.OnRows.{first_failing, judged};
+ghost use Rattle.sql_base.specs.OnRows.{first_failing, check_fault};
 ghost use Rattle.sql_base.specs.Rows.{IsRow};
 ghost use Rattle.sql_base.specs.Val.{val};
 ghost use Rattle.sql_base.specs.declared.tables.TableDef.{TableDef};
@@ -58,7 +58,7 @@ pub fn first_failing(checks: &List<Verified>, row: &Row) -> Option<Fault>
 // The fault of the CHECK of this number, where it faults or isn't true.
 fn judge(check: &Verified, row: &Row, number: u32) -> Option<Fault>
     requires { (table : TableDef) × (kind : Kind) × IsExpr table kind check.now.tree × IsRow table row.now }
-    ensures { result ≡ judged number (val check.now.tree row.now) }
+    ensures { result ≡ check_fault number (val check.now.tree row.now) }
 {
     match run(check, row) {
         Ok(Item::Truth(true)) => None,

@@ -50,17 +50,18 @@ abbrev pub new_row_fault : TableDef → Result (List Value) EvalFault → Option
 new_row_fault table (Ok row) = first_failing table.checks row
 new_row_fault table (Err fault) = Some (fault_of fault)
 
+-- the first of two faults
+abbrev pub sooner : Option Abort → Option Abort → Option Abort
+sooner (Some abort) later = Some abort
+sooner None later = later
+
 -- the key and fault of the first row of the range that faults
 abbrev pub first_fault : TableDef → Option Expr → (List Value → Option Fault) → Records → Option Abort
 first_fault table predicate met [] = None
 first_fault table predicate met (row ∷ rows) =
     if is_in (range table predicate) (key_of table row)
-    then or_else (option_map (Faulted (key_of table row)) (fault_on (filter_val predicate row) (met row))) (first_fault table predicate met rows)
+    then sooner (option_map (Faulted (key_of table row)) (fault_on (filter_val predicate row) (met row))) (first_fault table predicate met rows)
     else first_fault table predicate met rows
-  where
-    or_else : Option Abort → Option Abort → Option Abort
-    or_else (Some abort) later = Some abort
-    or_else None later = later
 
 -- the row after its SETs
 abbrev pub row_after : TableDef → List Assign → List Value → List Value
@@ -86,11 +87,6 @@ placed table row (r ∷ rs) = if key_lt (key_of table row) (key_of table r) then
 
 abbrev pub duplicate : TableDef → List Value → Records → Option Abort
 duplicate table row rows = if list_any (λ r. key_eq (key_of table r) (key_of table row)) rows then Some (Duplicate (key_of table row)) else None
-
--- the first of two faults
-abbrev pub sooner : Option Abort → Option Abort → Option Abort
-sooner (Some abort) later = Some abort
-sooner None later = later
 
 -- one statement on the records of its table
 abbrev pub one_on : TableDef → Statement → Records → Done

@@ -2,7 +2,7 @@
 
 ghost use Rattle.std.specs.Prelude.{◌≡◌, ◌<◌, ◌^◌, Option, is_some, length, option_map, slice_get, slice_set, unwrap_or, IfOk, OnOk};
 ghost use Rattle.std.specs.List.{list_any};
-ghost use Rattle.sql_base.specs.OnRows.{fault_of, first_failing, judged, stored, updated};
+ghost use Rattle.sql_base.specs.OnRows.{fault_of, first_failing, check_fault, stored, updated};
 ghost use Rattle.sql_base.specs.Rows.{kinds, padded, width};
 ghost use Rattle.sql_base.specs.Val.{val};
 ghost use Rattle.one_thread.specs.Values.{item_in};
@@ -108,7 +108,7 @@ pub fn first_failing(checks: &[Expr], row: &[Value]) -> Option<Fault>
     ensures { result ≡ first_failing checks.now row.now }
 {
     for (i, check) in checks.iter().enumerate() {
-        let fault = judged(check, row, i as u32 + 1);
+        let fault = check_fault(check, row, i as u32 + 1);
         if fault.is_some() {
             return fault;
         }
@@ -124,13 +124,13 @@ pub fn fails(checks: &[Expr], row: &[Value]) -> bool
 }
 
 fn any_fails(checks: &[Expr], row: &[Value]) -> bool
-    ensures { result ≡ list_any (λ check. is_some (judged 1 (val check row.now))) checks.now }
+    ensures { result ≡ list_any (λ check. is_some (check_fault 1 (val check row.now))) checks.now }
 {
-    checks.iter().any(|check| judged(check, row, 1).is_some())
+    checks.iter().any(|check| check_fault(check, row, 1).is_some())
 }
 
-fn judged(check: &Expr, row: &[Value], number: u32) -> Option<Fault>
-    ensures { result ≡ judged number (val check.now row.now) }
+fn check_fault(check: &Expr, row: &[Value], number: u32) -> Option<Fault>
+    ensures { result ≡ check_fault number (val check.now row.now) }
 {
     match value(check, row) {
         Ok(Item::Truth(true)) => None,

@@ -3,22 +3,20 @@ use Rattle.std.specs.Prelude.{◌≡◌, ℕ, ◌+◌, ◌==◌, List, [], ◌�
 use Rattle.std.specs.List.{AllByRecursion}
 use Rattle.sql_base.specs.Keys.{key_le, key_eq}
 use Rattle.sql_base.specs.Rows.{packed, key_of}
-use Rattle.sql_base.specs.Val.{filter_val}
-use Rattle.sql_base.specs.OnRows.{first_failing, updated}
+use Rattle.sql_base.specs.OnRows.{first_failing}
 use Rattle.sql_base.specs.Scripts.{Lies}
 use Rattle.sql_base.specs.Tables.{table_of}
 use Rattle.key_sequenced.specs.Changes.{put}
 use Rattle.key_sequenced.specs.Cells.{Keyed, records}
 use Rattle.sql_base.specs.Keys.{is_from}
 use Rattle.partition_state.specs.History.{before}
-use Rattle.one_thread.specs.One.{meets, fault_on, new_row_fault, row_after}
+use Rattle.one_thread.specs.One.{meets, row_after, statement_fault}
 use Rattle.session_grammar.specs.Plans.{plan_of}
 use Rattle.session_grammar.specs.declared.plans.Plan.{Plan}
 use Rattle.session_grammar.specs.declared.plans.Plan.TheVariants.{Singles, Subsets}
 use Rattle.session_grammar.specs.declared.plans.Sent.{Sent}
 use Rattle.session_grammar.specs.Follows.{Attempt, Reads, IsPart, AreTheirs, projection, asker, works_of}
 use Rattle.run_record.specs.Openings.{openings, history_of, log_of}
-use Rattle.sql_base.specs.declared.faults.Fault.{Fault}
 use Rattle.sql_base.specs.declared.key_ranges.KeyRange.{KeyRange}
 use Rattle.sql_base.specs.declared.key_ranges.Start.{Start}
 use Rattle.sql_base.specs.declared.key_ranges.Start.TheVariants.{At, After}
@@ -96,13 +94,7 @@ reply_changed (reply.Ended rows changed) = changed
 reply_changed (reply.Redrive subset last cause rows changed) = changed
 reply_changed other = 0
 
--- the fault of a row, which for an UPDATE is also that of its new row
-abbrev pub statement_fault : TableDef → Statement → List Value → Option Fault
-statement_fault table (Select t columns predicate access) row = fault_on (filter_val predicate row) None
-statement_fault table (Update t sets predicate access) row = fault_on (filter_val predicate row) (new_row_fault table (updated table sets row))
-statement_fault table (Delete t predicate access) row = fault_on (filter_val predicate row) None
-statement_fault table other row = None
-
+-- the statement has no fault on the record
 abbrev pub FaultFree : TableDef → Statement → Keyed → Type 0
 FaultFree table statement r = statement_fault table statement r.row ≡ None
 

@@ -38,13 +38,13 @@ abbrev pub updated : TableDef → List Assign → List Value → Result (List Va
 updated table sets row = assigned table row sets row
 
 -- the fault of the CHECK of this number with this value: a CHECK fails where it isn't true
-abbrev pub judged : ℕ → Outcome → Option Fault
-judged number (Err fault) = Some (fault_of fault)
-judged number (Ok (IsTruth true)) = None
-judged number (Ok (IsTruth false)) = Some (fault.CheckFailed number)
-judged number (Ok (IsNumber n)) = Some (fault.CheckFailed number)
-judged number (Ok (IsText text)) = Some (fault.CheckFailed number)
-judged number (Ok IsNothing) = Some (fault.CheckFailed number)
+abbrev pub check_fault : ℕ → Outcome → Option Fault
+check_fault number (Err fault) = Some (fault_of fault)
+check_fault number (Ok (IsTruth true)) = None
+check_fault number (Ok (IsTruth false)) = Some (fault.CheckFailed number)
+check_fault number (Ok (IsNumber n)) = Some (fault.CheckFailed number)
+check_fault number (Ok (IsText text)) = Some (fault.CheckFailed number)
+check_fault number (Ok IsNothing) = Some (fault.CheckFailed number)
 
 abbrev pub or_later : Option Fault → Option Fault → Option Fault
 or_later (Some fault) later = Some fault
@@ -53,7 +53,7 @@ or_later None later = later
 -- the fault of the first CHECK that fails; CHECKs count from 1
 abbrev pub failing_from : ℕ → List Expr → List Value → Option Fault
 failing_from number [] row = None
-failing_from number (check ∷ checks) row = or_later (judged number (val check row)) (failing_from (number + 1) checks row)
+failing_from number (check ∷ checks) row = or_later (check_fault number (val check row)) (failing_from (number + 1) checks row)
 
 abbrev pub first_failing : List Expr → List Value → Option Fault
 first_failing checks row = failing_from 1 checks row

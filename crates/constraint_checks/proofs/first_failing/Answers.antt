@@ -1,6 +1,6 @@
 use Rattle.std.proofs.Common.{rules, List, map, ◌≡◌, ◌+◌, true, false, sym, ap, ◌∙◌}
 use Rattle.std.specs.Option.{is_some}
-use Rattle.sql_base.specs.OnRows.{first_failing, judged}
+use Rattle.sql_base.specs.OnRows.{first_failing, check_fault}
 use Rattle.sql_base.specs.Val.{val}
 use Rattle.predicate_runner.specs.Outlines.{Checked}
 use Rattle.constraint_checks.specs.Judging.{tree_of}
@@ -11,14 +11,14 @@ use Rattle.constraint_checks.proofs.first_failing.Goals as goal
 pub returns-then-is_some : goal.returns-then-is_some
 returns-then-is_some c =
     let here = at_place c.items-checks.result.now c.loop-i.i c.index-checks-i.result c.args.row.now c.loop-i-test.true c.index-checks-i.is in
-    let fault : c.judge-fault.result ≡ judged (c.loop-i.i + 1) (val c.index-checks-i.result.tree c.args.row.now) = c.judge-fault.ensures in
-    let some : is_some (judged (c.loop-i.i + 1) (val c.index-checks-i.result.tree c.args.row.now)) ≡ true = ap is_some (sym fault) ∙ (search rules) in
-    fault ∙ sym (or_later-some (judged (c.loop-i.i + 1) (val c.index-checks-i.result.tree c.args.row.now)) _ some) ∙ sym here ∙ c.loop-i.invariant
+    let fault : c.judge-fault.result ≡ check_fault (c.loop-i.i + 1) (val c.index-checks-i.result.tree c.args.row.now) = c.judge-fault.ensures in
+    let some : is_some (check_fault (c.loop-i.i + 1) (val c.index-checks-i.result.tree c.args.row.now)) ≡ true = ap is_some (sym fault) ∙ (search rules) in
+    fault ∙ sym (or_later-some (check_fault (c.loop-i.i + 1) (val c.index-checks-i.result.tree c.args.row.now)) _ some) ∙ sym here ∙ c.loop-i.invariant
     ∙ ap (λ (checks : List Checked). first_failing (map tree_of checks) c.args.row.now) c.items-checks.ensures
 
 pub loop-i-preserved : goal.loop-i-preserved
 loop-i-preserved c =
     let here = at_place c.items-checks.result.now c.loop-i.i c.index-checks-i.result c.args.row.now c.loop-i-test.true c.index-checks-i.is in
-    let fault : c.judge-fault.result ≡ judged (c.loop-i.i + 1) (val c.index-checks-i.result.tree c.args.row.now) = c.judge-fault.ensures in
-    let none : is_some (judged (c.loop-i.i + 1) (val c.index-checks-i.result.tree c.args.row.now)) ≡ false = ap is_some (sym fault) ∙ (search rules) in
-    sym (or_later-none (judged (c.loop-i.i + 1) (val c.index-checks-i.result.tree c.args.row.now)) _ none) ∙ sym here ∙ c.loop-i.invariant
+    let fault : c.judge-fault.result ≡ check_fault (c.loop-i.i + 1) (val c.index-checks-i.result.tree c.args.row.now) = c.judge-fault.ensures in
+    let none : is_some (check_fault (c.loop-i.i + 1) (val c.index-checks-i.result.tree c.args.row.now)) ≡ false = ap is_some (sym fault) ∙ (search rules) in
+    sym (or_later-none (check_fault (c.loop-i.i + 1) (val c.index-checks-i.result.tree c.args.row.now)) _ none) ∙ sym here ∙ c.loop-i.invariant
