@@ -23,8 +23,8 @@ use Rattle.session_grammar.specs.declared.logs.LogEntry.TheVariants.{Asked, Drew
 use Rattle.record_laws.proofs.Attempts.{IsWork}
 use Rattle.record_laws.proofs.Endings.{end_for, no_end_for, no_prepare_for, prepare_for}
 use Rattle.record_laws.proofs.Lists.{all_filter, all_passed}
-use Rattle.alone_laws.specs.Served.{Calm, Lively, Replies, served_by}
-use Rattle.alone_laws.specs.States.{AllCalm, AllReply, AreOpen}
+use Rattle.alone_laws.specs.Scaffold.Served.{Calm, Lively, Replies, served_by}
+use Rattle.alone_laws.specs.Scaffold.States.{AllCalm, AllReply, AreOpen}
 use Rattle.alone_laws.proofs.HistoriesFollow.{replies-back, served-append}
 use Rattle.alone_laws.proofs.OneLive.{calm-higher, calm-lively, commit-calm, lively-step, prepare-cells, prepare-floor, undo-calm}
 use Rattle.alone_laws.proofs.StatesBehind.{lively_served}

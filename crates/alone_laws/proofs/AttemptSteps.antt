@@ -28,15 +28,15 @@ use Rattle.session_grammar.specs.declared.logs.LogEntry.TheVariants.{Asked, Drew
 use Rattle.session_grammar.proofs.Readings.{AreAsked}
 use Rattle.record_laws.proofs.Attempts.{IsWork, parts-work}
 use Rattle.record_laws.proofs.LaneAttempts.{ends-asked, prepares-asked}
-use Rattle.alone_laws.specs.Served.{Calm, Lively, served_by}
-use Rattle.alone_laws.specs.States.{AllCalm, AllLively, AllReply, AreOpen, IsFault, behind, views, world_of}
+use Rattle.alone_laws.specs.Scaffold.Served.{Calm, Lively, served_by}
+use Rattle.alone_laws.specs.Scaffold.States.{AllCalm, AllLively, AllReply, AreOpen, IsFault, behind, views, world_of}
 use Rattle.alone_laws.proofs.AttemptEndings.{committed_at, floor_low, undone_at}
 use Rattle.alone_laws.proofs.OneLive.{calm-lively}
 use Rattle.alone_laws.proofs.StatesBehind.{behind_nothing, came_from, reply_front, views_alike}
 use Rattle.alone_laws.proofs.StatementRuns.{RunsTo, statements_run}
 use Rattle.sql_base.specs.declared.outcomes.Given.{Given}
 use Rattle.record_laws.proofs.Drawing.{drawn_none}
-use Rattle.sql_base.proofs.Lists.{all_right}
+use Rattle.sql_base.proofs.ListFacts.{all_right}
 
 work_asked : (ordinal : ℕ) (es : List LogEntry) → AllByRecursion (IsWork ordinal) es → AreAsked es
 work_asked ordinal [] h = tt

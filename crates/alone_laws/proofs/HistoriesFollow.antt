@@ -14,7 +14,7 @@ use Rattle.session_grammar.specs.declared.logs.LogEntry.{LogEntry}
 use Rattle.session_grammar.specs.declared.logs.LogEntry.TheVariants.{Asked, Drew}
 use Rattle.run_record.specs.Headline.{AreHeard}
 use Rattle.run_record.specs.Legal.{AreServed}
-use Rattle.alone_laws.specs.Served.{Replies, served_by}
+use Rattle.alone_laws.specs.Scaffold.Served.{Replies, served_by}
 use Rattle.dp_messages.specs.declared.replies.Reply.{Reply as PartitionReply}
 
 -- one log behind another

@@ -33,8 +33,8 @@ use Rattle.session_grammar.specs.Plans.{all_columns, plan_on}
 use Rattle.session_grammar.specs.Rows.{is_for}
 use Rattle.session_grammar.specs.declared.logs.LogEntry.{LogEntry}
 use Rattle.session_grammar.specs.declared.plans.Sent.{Sent}
-use Rattle.alone_laws.specs.Served.{Replies, served_by}
-use Rattle.alone_laws.specs.States.{AllLively, AllReply, AreOpen, ComesTo, IsFault, IsOpen, behind, views, world_of}
+use Rattle.alone_laws.specs.Scaffold.Served.{Replies, served_by}
+use Rattle.alone_laws.specs.Scaffold.States.{AllLively, AllReply, AreOpen, ComesTo, IsFault, IsOpen, behind, views, world_of}
 use Rattle.alone_laws.proofs.SingleRequests.{InsertCame, insert_came}
 use Rattle.alone_laws.proofs.FailingLists.{singles_own}
 use Rattle.alone_laws.proofs.TableFaults.{InsertFails, insert_fails}

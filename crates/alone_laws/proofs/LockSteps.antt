@@ -21,17 +21,17 @@ use Rattle.serial_passes.proofs.Givings.{none_for}
 use Rattle.serial_passes.proofs.Tables.{AllFrom, all_same, moved-from, moved-map, rows_of, step_of}
 use Rattle.session_grammar.specs.Follows.{AreTheirs, IsPart, IsSingle, asker, projection, InLineBy, WideBy}
 use Rattle.session_grammar.specs.Plans.{plan_on}
-use Rattle.session_grammar.specs.Rows.{is_for, IsRow}
+use Rattle.session_grammar.specs.Rows.{is_for, IsExchange}
 use Rattle.session_grammar.specs.declared.logs.LogEntry.{LogEntry}
 use Rattle.session_grammar.specs.declared.plans.Sent.{Sent}
-use Rattle.alone_laws.specs.Served.{Replies, served_by}
-use Rattle.alone_laws.specs.States.{AllLively, AllReply, AreOpen, ComesTo, behind, views, world_of}
+use Rattle.alone_laws.specs.Scaffold.Served.{Replies, served_by}
+use Rattle.alone_laws.specs.Scaffold.States.{AllLively, AllReply, AreOpen, ComesTo, behind, views, world_of}
 use Rattle.alone_laws.proofs.SingleRequests.{lock_came}
 use Rattle.alone_laws.proofs.FailingLists.{Breaks, singles_own, turn_breaks}
 use Rattle.alone_laws.proofs.ScanSteps.{open_here, part_below, state_at, views_length, views_related}
 use Rattle.serial_passes.proofs.Splits.{find-contains}
 use Rattle.alone_laws.proofs.ScanPlans.{plan_is}
-use Rattle.sql_base.proofs.Lists.{all_right, found_passes}
+use Rattle.sql_base.proofs.ListFacts.{all_right, found_passes}
 
 -- a LOCK TABLE
 module _ (script : Script) (is : IsScript script) (n : ℕ) (mode : Mode) (table : TableDef) (at : slice_get script.tables n ≡ Some table)
@@ -61,7 +61,7 @@ module _ (script : Script) (is : IsScript script) (n : ℕ) (mode : Mode) (table
   locked_at s k q list end l there told single =
       let here = open_here script table l.number q (open_qs.here n l.number table q at l.within_table (subst (λ x. slice_get qs x ≡ Some q) l.part_is there)) in
       lock_came (asker script 1) ordinal s.part t own (bases s.part) top table script.limits q here (lively s.part q there) list end told [] mode
-      (single.0, subst (λ a. IsRow script.limits.patience s.part (record { ordinal = ordinal; ask = a }) list single.0) l.ask_is single.1, single.2)
+      (single.0, subst (λ a. IsExchange script.limits.patience s.part (record { ordinal = ordinal; ask = a }) list single.0) l.ask_is single.1, single.2)
 
   there_at : (s : Sent) → LockSent s → (q : State) × (slice_get qs s.part ≡ Some q)
   there_at s l =

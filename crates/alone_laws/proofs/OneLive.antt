@@ -35,7 +35,7 @@ use Rattle.partition_laws.proofs.Stepped.{stepped}
 use Rattle.partition_laws.proofs.Steps.{Keeps-step}
 use Rattle.serial_laws.specs.Locked.{LockStands}
 use Rattle.serial_laws.proofs.Locked.{locked-step}
-use Rattle.alone_laws.specs.Served.{Calm, Lively}
+use Rattle.alone_laws.specs.Scaffold.Served.{Calm, Lively}
 use Rattle.sql_base.proofs.RowFacts.{same_txn-is, same_txn-itself}
 
 one_lies : Lies 1 8 1

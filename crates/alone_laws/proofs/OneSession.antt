@@ -35,14 +35,14 @@ use Rattle.record_laws.proofs.FiveFacts.{as_many, within_tables}
 use Rattle.record_laws.proofs.Lists.{all_filter, all_slice}
 use Rattle.serial_laws.proofs.AtParts.{legal_at}
 use Rattle.alone_laws.specs.Laws.{AloneIsOneThread}
-use Rattle.alone_laws.specs.Served.{Replies, served_by}
-use Rattle.alone_laws.specs.States.{AllCalm, AllReply, AreOpen, IsFault, behind, views, world_of}
+use Rattle.alone_laws.specs.Scaffold.Served.{Replies, served_by}
+use Rattle.alone_laws.specs.Scaffold.States.{AllCalm, AllReply, AreOpen, IsFault, behind, views, world_of}
 use Rattle.alone_laws.proofs.AttemptSteps.{Comes, EndsAs, attempt_comes}
 use Rattle.alone_laws.proofs.HistoriesFollow.{Follows, all_one, follows_log, own_whole}
 use Rattle.alone_laws.proofs.OneJournal.{journal_is}
 use Rattle.alone_laws.proofs.OpenTables.{opened_calm, opened_open, opened_world}
 use Rattle.alone_laws.proofs.StatesBehind.{behind_nothing, behind_twice, open_behind, reply_behind, reply_front}
-use Rattle.sql_base.proofs.Lists.{all_left, all_right, zip_length}
+use Rattle.sql_base.proofs.ListFacts.{all_left, all_right, zip_length}
 
 module _ (script : Script) (is : IsScript script) where
   -- what a session shows, and the tables behind it

@@ -11,11 +11,11 @@ use Rattle.partition_state.specs.State.{State, opening}
 use Rattle.run_record.specs.Openings.{openings, openings_from, rows_in_part}
 use Rattle.serial_laws.proofs.Opened.{opened-as, sound-at}
 use Rattle.serial_passes.proofs.LoadedTables.{opened_tables}
-use Rattle.alone_laws.specs.States.{AllCalm, AreOpen, IsOpen, world_of}
+use Rattle.alone_laws.specs.Scaffold.States.{AllCalm, AreOpen, IsOpen, world_of}
 use Rattle.partition_laws.specs.Keeping.{lives_in}
 use Rattle.state_facts.proofs.Openings.{opened-fresh}
 use Rattle.run_record.proofs.EntryLists.{all_joined}
-use Rattle.sql_base.proofs.Lists.{all_at}
+use Rattle.sql_base.proofs.ListFacts.{all_at}
 
 -- the tables as they open are those of the LOAD rows
 pub opened_world : (script : Script) → IsScript script → world_of script.tables (openings script) ≡ loaded script

@@ -44,9 +44,9 @@ use Rattle.session_grammar.specs.Plans.{filter_code}
 use Rattle.subset_blocks.specs.Blocks.{find_block}
 use Rattle.subset_blocks.specs.declared.Block.{Block}
 use Rattle.subset_blocks.specs.declared.Numbered.{Numbered}
-use Rattle.serial_laws.specs.Exact.{HasRoom, IsSet, IsWorkOf}
-use Rattle.serial_laws.specs.Sound.{Sound}
-use Rattle.serial_laws.specs.Stages.{Stage, Fresh, Onward, Awaits, IsBlock, RoomFor, ask_at, start_at}
+use Rattle.serial_laws.specs.Scaffold.Exact.{HasRoom, IsSet, IsWorkOf}
+use Rattle.serial_laws.specs.Scaffold.Sound.{Sound}
+use Rattle.serial_laws.specs.Scaffold.Stages.{Stage, Fresh, Onward, Awaits, IsBlock, RoomFor, ask_at, start_at}
 use Rattle.serial_laws.proofs.Codes.{filter_of-code}
 use Rattle.serial_laws.proofs.Handled.{FitsVerdict, first_stops, no_last}
 use Rattle.serial_laws.proofs.QuantumExact.{fits_all}
@@ -54,8 +54,8 @@ use Rattle.serial_laws.proofs.Singles.{read_handled}
 use Rattle.serial_laws.proofs.Steps.{answered-kind, stepped, was_handled}
 use Rattle.serial_laws.proofs.Subsets.{begins-for, made, room_of}
 use Rattle.serial_passes.proofs.Edits.{within}
-use Rattle.alone_laws.specs.Failing.{Fails}
-use Rattle.sql_base.proofs.Lists.{all-filter}
+use Rattle.alone_laws.specs.Scaffold.Failing.{Fails}
+use Rattle.sql_base.proofs.ListFacts.{all-filter}
 
 -- the first candidate of a block, which faults
 record FirstFaults (table : TableDef) (locks : List Lock) (block : Block SetWork) (cells : List Cell) (key : List ℕ) (fault : Fault) : Type 0 where

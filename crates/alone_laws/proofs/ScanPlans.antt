@@ -21,28 +21,28 @@ use Rattle.partition_map.specs.Map.{part_of}
 use Rattle.partition_state.specs.State.{State}
 use Rattle.range_finder.specs.Range.{range}
 use Rattle.run_record.specs.Tiles.{range_of, sents_of}
-use Rattle.serial_laws.specs.Exact.{IsSet}
-use Rattle.serial_laws.specs.Stages.{Fresh, RoomFor, begin_of}
+use Rattle.serial_laws.specs.Scaffold.Exact.{IsSet}
+use Rattle.serial_laws.specs.Scaffold.Stages.{Fresh, RoomFor, begin_of}
 use Rattle.serial_laws.proofs.Finished.{PieceSent, range_is, sents-are, sents_from}
 use Rattle.serial_laws.proofs.InLine.{IsOwn, PartsRise, in_turn-each, in_turn-theirs, list-own, single-own, together-each}
 use Rattle.serial_laws.proofs.Rooms.{room-for}
-use Rattle.serial_passes.specs.Did.{first_of}
+use Rattle.serial_passes.specs.Scaffold.Did.{first_of}
 use Rattle.serial_passes.proofs.Givings.{part_within}
 use Rattle.serial_passes.proofs.PieceLaws.{pieces_law}
 use Rattle.serial_passes.proofs.Sweeping.{Sweeps as Scans}
-use Rattle.session_grammar.specs.Follows.{AreTheirs, IsList, IsPart, IsSingle, OneAfterOther, Together, asker, projection, InLineBy, AreRows, WideBy}
-use Rattle.session_grammar.specs.Plans.{Asker, begins_in, filter_code, plan_of, plan_on, select_plan, begins}
+use Rattle.session_grammar.specs.Follows.{AreTheirs, IsList, IsPart, IsSingle, OneAfterOther, Together, asker, projection, InLineBy, AreExchanges, WideBy}
+use Rattle.session_grammar.specs.Plans.{Asker, begins_in, filter_code, plan_of, plan_on, select_plan, begin_pieces}
 use Rattle.session_grammar.specs.declared.logs.LogEntry.{LogEntry}
 use Rattle.session_grammar.specs.declared.plans.Plan.TheVariants.{Singles, Subsets}
 use Rattle.session_grammar.specs.declared.plans.Sent.{Sent}
-use Rattle.alone_laws.specs.Served.{Replies, served_by}
-use Rattle.alone_laws.specs.States.{AllLively, AllReply, AreOpen, ComesTo, IsOpen}
+use Rattle.alone_laws.specs.Scaffold.Served.{Replies, served_by}
+use Rattle.alone_laws.specs.Scaffold.States.{AllLively, AllReply, AreOpen, ComesTo, IsOpen}
 use Rattle.alone_laws.proofs.SingleRequests.{read_came}
 use Rattle.alone_laws.proofs.FailingLists.{AreOwn, Breaks, lists_own, singles_own, together_breaks, turn_breaks}
 use Rattle.alone_laws.proofs.SubsetLists.{Came, list_came}
 use Rattle.alone_laws.proofs.ScanSteps.{SentCame, open_here, scan_done, scan_fails}
 use Rattle.sql_base.specs.declared.key_ranges.Start.TheVariants.{At}
-use Rattle.sql_base.proofs.Lists.{all_at, all_left, all_right}
+use Rattle.sql_base.proofs.ListFacts.{all_at, all_left, all_right}
 
 -- the plan of a statement of this table
 pub plan_is : (script : Script) (statement : Statement) (table : TableDef) → slice_get script.tables (table_of statement) ≡ Some table → plan_of (asker script 1) statement ≡ plan_on (asker script 1) table statement
@@ -73,7 +73,7 @@ module _ (script : Script) (is : IsScript script) (statement : Statement) (table
     range_is = ap range_of p.ask_is ∙ range_is statement p.granule p.piece set;
     came = λ q there told. subst (λ l. Came table statement (At p.piece.low) p.piece.high (records q.cells) l (records (served_by q l).cells) end) (sym list_is)
         (list_came r ordinal sent.part t own (bases sent.part) top table script.limits statement p.granule p.piece set room rows q Fresh end
-        (subst (λ a. AreRows r ordinal sent.part a rows end) p.ask_is rows_are) (subst (Replies q) list_is told)
+        (subst (λ a. AreExchanges r ordinal sent.part a rows end) p.ask_is rows_are) (subst (Replies q) list_is told)
         (open_here script table p.number q (here_at p.number sent.part q p.within p.part_is there)) (lively sent.part q there) tt);
   }
 
@@ -184,7 +184,7 @@ select_comes script is n columns predicate access table at suits qs open_qs ordi
     by_key : (whole : KeyRange) (b : Bool)
         → plan_of (asker script 1) (Select n columns predicate access)
         ≡ cond b (Singles (record { part = parts_of (take n script.tables) + part_of table whole.low; ask = ask.ReadKey access whole.low (filter_code predicate) columns } ∷ []))
-        (Subsets (begins (asker script 1) table n whole (λ granule piece. ask.BeginRead access granule piece (filter_code predicate) columns))) → ComesTo script qs (Select n columns predicate access) es end
+        (Subsets (begin_pieces (asker script 1) table n whole (λ granule piece. ask.BeginRead access granule piece (filter_code predicate) columns))) → ComesTo script qs (Select n columns predicate access) es end
     by_key whole true plan =
         let sent : Sent = record { part = parts_of (take n script.tables) + part_of table whole.low; ask = ask.ReadKey access whole.low (filter_code predicate) columns } in
         let room_is = room script is (Select n columns predicate access) table at suits qs open_qs ordinal t own bases top lively es replies in

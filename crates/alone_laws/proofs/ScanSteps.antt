@@ -26,12 +26,12 @@ use Rattle.partition_laws.specs.Keeping.{CellHas}
 use Rattle.partition_map.specs.Map.{part_of}
 use Rattle.partition_state.specs.State.{State}
 use Rattle.run_record.specs.Base.{by_table}
-use Rattle.run_record.specs.Serial.{given_of}
+use Rattle.run_record.specs.Serial.{part_gives}
 use Rattle.run_record.specs.Tiles.{FaultFree, range_of, sents_of}
-use Rattle.serial_laws.specs.Sound.{FitsHere}
+use Rattle.serial_laws.specs.Scaffold.Sound.{FitsHere}
 use Rattle.serial_laws.proofs.Chains.{Here}
-use Rattle.serial_passes.specs.Did.{PieceLaw, first_of}
-use Rattle.serial_passes.specs.Pieces.{AreOf, IsOf, in_range}
+use Rattle.serial_passes.specs.Scaffold.Did.{PieceLaw, first_of}
+use Rattle.serial_passes.specs.Scaffold.Pieces.{AreOf, IsOf, in_range}
 use Rattle.serial_passes.proofs.Blocks.{Ranged, given_by, ranged}
 use Rattle.serial_passes.proofs.Edits.{spans, within}
 use Rattle.serial_passes.proofs.Givings.{gives, none_for, elsewhere_none}
@@ -44,14 +44,14 @@ use Rattle.session_grammar.specs.Plans.{plan_of}
 use Rattle.session_grammar.specs.Rows.{is_for}
 use Rattle.session_grammar.specs.declared.logs.LogEntry.{LogEntry}
 use Rattle.session_grammar.specs.declared.plans.Sent.{Sent}
-use Rattle.alone_laws.specs.Failing.{Fails}
-use Rattle.alone_laws.specs.Served.{Replies, served_by}
-use Rattle.alone_laws.specs.States.{AllReply, AreOpen, IsFault, IsOpen, behind, views, world_of}
+use Rattle.alone_laws.specs.Scaffold.Failing.{Fails}
+use Rattle.alone_laws.specs.Scaffold.Served.{Replies, served_by}
+use Rattle.alone_laws.specs.Scaffold.States.{AllReply, AreOpen, IsFault, IsOpen, behind, views, world_of}
 use Rattle.alone_laws.proofs.FailingLists.{Breaks, find_at, find_front}
 use Rattle.alone_laws.proofs.TableFaults.{PartFails, RangeFails, parts_fail}
 use Rattle.alone_laws.proofs.SubsetLists.{Came, Sweeps, ascends}
 use Rattle.serial_laws.proofs.InLine.{PartsRise}
-use Rattle.sql_base.proofs.Lists.{all-weaker, found_passes}
+use Rattle.sql_base.proofs.ListFacts.{all-weaker, found_passes}
 
 -- two lists of views, related partition by partition
 pub views_related : (R : ℕ → List Keyed → List Keyed → Type 0) (es : List LogEntry) (qs : List State) (i : ℕ)
@@ -215,7 +215,7 @@ module _ (script : Script) (is : IsScript script) (statement : Statement) (table
       shifted k (inl h) = inl (omega arith)
       shifted k (inr h) = inr (omega arith)
 
-      pub scan_done : one (world_of script.tables qs) statement ≡ (Ok (given_of (asker script 1) statement es), world_of script.tables (behind 0 qs es))
+      pub scan_done : one (world_of script.tables qs) statement ≡ (Ok (part_gives (asker script 1) statement es), world_of script.tables (behind 0 qs es))
       scan_done =
           step_of script.tables (views qs) (views (behind 0 qs es)) statement table
           (given_by table statement (flat_map (λ j. filter (is_for (first + j)) es) (range_with_len 0 parts_here))) at

@@ -40,14 +40,14 @@ use Rattle.session_grammar.specs.declared.logs.Answer.TheVariants.{Reply}
 use Rattle.session_grammar.specs.declared.logs.LogEntry.{LogEntry}
 use Rattle.session_grammar.specs.declared.logs.LogEntry.TheVariants.{Asked}
 use Rattle.run_record.specs.Tiles.{interval_of, Matches, FaultFree, inside, Cover}
-use Rattle.serial_laws.specs.Stages.{RoomFor}
+use Rattle.serial_laws.specs.Scaffold.Stages.{RoomFor}
 use Rattle.serial_laws.proofs.Chains.{Here}
 use Rattle.serial_laws.proofs.Singles.{InsertTells, RowTells, adds, insert-step, just, lock-step, read-step}
 use Rattle.serial_laws.proofs.Steps.{answered-kind, stepped, was_handled}
 use Rattle.serial_passes.proofs.Placings.{IsAbsent}
 use Rattle.serial_passes.proofs.Sweeping.{HandlesOrNot, matches-edit, matches-shows}
-use Rattle.alone_laws.specs.Failing.{Fails}
-use Rattle.alone_laws.specs.Served.{Lively, Replies, served_by}
+use Rattle.alone_laws.specs.Scaffold.Failing.{Fails}
+use Rattle.alone_laws.specs.Scaffold.Served.{Lively, Replies, served_by}
 use Rattle.alone_laws.proofs.QuantumFaults.{read-failed}
 use Rattle.alone_laws.proofs.SubsetLists.{Came, OneRow, Sweeps, one_row}
 use Rattle.partition_state.specs.declared.lives.Live.{Live}

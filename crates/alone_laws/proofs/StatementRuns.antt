@@ -14,11 +14,11 @@ use Rattle.sql_base.specs.declared.statements.Statement.{Statement}
 use Rattle.key_sequenced.specs.Cells.{Keyed}
 use Rattle.one_thread.specs.One.{Aborts, World, ends, one, run_from}
 use Rattle.partition_state.specs.State.{State}
-use Rattle.run_record.specs.Serial.{given_of, givens_of}
+use Rattle.run_record.specs.Serial.{part_gives, givens_of}
 use Rattle.session_grammar.specs.Follows.{InTurn, IsPart, asker, joined}
 use Rattle.session_grammar.specs.declared.logs.LogEntry.{LogEntry}
 use Rattle.record_laws.proofs.Attempts.{part-work}
-use Rattle.alone_laws.specs.States.{AllLively, AllReply, AreOpen, ComesTo, IsFault, behind, world_of}
+use Rattle.alone_laws.specs.Scaffold.States.{AllLively, AllReply, AreOpen, ComesTo, IsFault, behind, world_of}
 use Rattle.alone_laws.proofs.StatesBehind.{behind_nothing, behind_twice, lively_behind, open_behind, reply_behind, reply_front}
 use Rattle.alone_laws.proofs.StatementSteps.{statement_comes}
 
@@ -37,13 +37,13 @@ module _ (script : Script) (is : IsScript script) (ordinal : ℕ) (t : TxnName) 
 
   -- one more statement
   run_more : (before : World) (commit : Bool) (given : List Given) (statement : Statement) (statements : List Statement) (part : List LogEntry) (parts : List (List LogEntry)) (qs : List State) (end : Option Abort)
-      → one (world_of script.tables qs) statement ≡ (Ok (given_of (asker script 1) statement part), world_of script.tables (behind 0 qs part))
-      → RunsTo before commit (given ++ given_of (asker script 1) statement part ∷ []) statements parts (behind 0 qs part) end → RunsTo before commit given (statement ∷ statements) (part ∷ parts) qs end
+      → one (world_of script.tables qs) statement ≡ (Ok (part_gives (asker script 1) statement part), world_of script.tables (behind 0 qs part))
+      → RunsTo before commit (given ++ part_gives (asker script 1) statement part ∷ []) statements parts (behind 0 qs part) end → RunsTo before commit given (statement ∷ statements) (part ∷ parts) qs end
   run_more before commit given statement statements part parts qs None step rest =
       rw step
       (rest ∙ (λ i. record {
         ending = ends commit;
-        given = append_assoc given (given_of (asker script 1) statement part ∷ []) (givens_of (asker script 1) statements parts) i;
+        given = append_assoc given (part_gives (asker script 1) statement part ∷ []) (givens_of (asker script 1) statements parts) i;
         world = if commit then world_of script.tables (behind_twice 0 qs part (joined parts) i) else before;
       }))
   run_more before commit given statement statements part parts qs (Some abort) step rest = (rest.0, rw step rest.1)
@@ -64,7 +64,7 @@ module _ (script : Script) (is : IsScript script) (ordinal : ℕ) (t : TxnName) 
       let step = first_comes statement qs suits.0 open_qs lively part (reply_front qs part (joined parts) replies) None turns.0 in
       let work = part-work (asker script 1) ordinal statement part None turns.0 in
       run_more before commit given statement statements part parts qs end step
-      (statements_run before commit (given ++ given_of (asker script 1) statement part ∷ []) statements parts (behind 0 qs part) end suits.1 turns.1 (open_behind script qs part open_qs) (lively_behind t ordinal own bases top qs part work lively)
+      (statements_run before commit (given ++ part_gives (asker script 1) statement part ∷ []) statements parts (behind 0 qs part) end suits.1 turns.1 (open_behind script qs part open_qs) (lively_behind t ordinal own bases top qs part work lively)
       (reply_behind qs part (joined parts) replies))
   statements_run before commit given (statement ∷ statements) (part ∷ parts) qs None suits (inr turns) open_qs lively replies = absurd (false≢true turns.1)
   statements_run before commit given (statement ∷ statements) (part ∷ parts) qs (Some abort) suits (inr turns) open_qs lively replies =

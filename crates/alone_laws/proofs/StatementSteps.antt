@@ -16,7 +16,7 @@ use Rattle.range_finder.specs.Range.{range}
 use Rattle.session_grammar.specs.Follows.{IsPart, asker}
 use Rattle.session_grammar.specs.Plans.{filter_code}
 use Rattle.session_grammar.specs.declared.logs.LogEntry.{LogEntry}
-use Rattle.alone_laws.specs.States.{AllLively, AllReply, AreOpen, ComesTo}
+use Rattle.alone_laws.specs.Scaffold.States.{AllLively, AllReply, AreOpen, ComesTo}
 use Rattle.sql_base.specs.Codes.{sets_code}
 use Rattle.alone_laws.proofs.ScanPlans.{plan_is, range_comes, select_comes}
 use Rattle.alone_laws.proofs.InsertSteps.{insert_comes}

@@ -19,8 +19,8 @@ use Rattle.session_grammar.specs.declared.logs.LogEntry.{LogEntry}
 use Rattle.session_grammar.specs.declared.logs.LogEntry.TheVariants.{Asked, Drew}
 use Rattle.record_laws.proofs.Attempts.{IsWork}
 use Rattle.record_laws.proofs.Lists.{all_filter}
-use Rattle.alone_laws.specs.Served.{Lively, Replies, served_by}
-use Rattle.alone_laws.specs.States.{AllLively, AllReply, AreOpen, IsOpen, behind, views}
+use Rattle.alone_laws.specs.Scaffold.Served.{Lively, Replies, served_by}
+use Rattle.alone_laws.specs.Scaffold.States.{AllLively, AllReply, AreOpen, IsOpen, behind, views}
 use Rattle.alone_laws.proofs.HistoriesFollow.{replies-back, replies-front, served-append}
 use Rattle.alone_laws.proofs.OneLive.{lively-step}
 use Rattle.serial_passes.proofs.KeyCommits.{open_ask}

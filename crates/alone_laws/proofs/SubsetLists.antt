@@ -26,17 +26,17 @@ use Rattle.partition_state.specs.Commits.{is_commit}
 use Rattle.partition_state.specs.State.{State}
 use Rattle.partition_state.specs.Step.{step}
 use Rattle.partition_laws.specs.Keeping.{Keeps}
-use Rattle.session_grammar.specs.Follows.{AfterRow, AreRows, joined}
+use Rattle.session_grammar.specs.Follows.{AfterRow, AreExchanges, joined}
 use Rattle.session_grammar.specs.Plans.{Asker}
-use Rattle.session_grammar.specs.Rows.{IsAsked, IsRow, fits, fits_subset}
+use Rattle.session_grammar.specs.Rows.{IsAsked, IsExchange, fits, fits_subset}
 use Rattle.session_grammar.specs.declared.logs.Answer.{Answer}
 use Rattle.session_grammar.specs.declared.logs.Answer.TheVariants.{Reply, PathFailed, Stamp}
 use Rattle.session_grammar.specs.declared.logs.LogEntry.{LogEntry}
 use Rattle.session_grammar.specs.declared.logs.LogEntry.TheVariants.{Asked, Drew}
 use Rattle.run_record.specs.Tiles.{Cover, FaultFree, Interval, end_of, interval_from, interval_of, reply_changed, reply_rows}
 use Rattle.run_record.proofs.EntryLists.{all_joined}
-use Rattle.serial_laws.specs.Exact.{IsSet}
-use Rattle.serial_laws.specs.Stages.{Stage, Fresh, Onward, Awaits, RoomFor, ask_at, start_at}
+use Rattle.serial_laws.specs.Scaffold.Exact.{IsSet}
+use Rattle.serial_laws.specs.Scaffold.Stages.{Stage, Fresh, Onward, Awaits, RoomFor, ask_at, start_at}
 use Rattle.serial_laws.proofs.Chains.{Here, cover-more, here-step, interval_is, start_is}
 use Rattle.serial_laws.proofs.QuantumExact.{IsExact}
 use Rattle.serial_laws.proofs.Subsets.{SubsetTells, subset-step}
@@ -44,8 +44,8 @@ use Rattle.serial_passes.proofs.Changing.{Ascend-rows_by, cells_ascend}
 use Rattle.serial_passes.proofs.Edits.{edited, limited, spans, within, within-behind, within-split}
 use Rattle.serial_passes.proofs.Looking.{Ascend}
 use Rattle.serial_passes.proofs.Sweeping.{Goes, HandlesOrNot, acts, matches-edit, matches-shows}
-use Rattle.alone_laws.specs.Failing.{Fails}
-use Rattle.alone_laws.specs.Served.{Lively, Replies, served_by}
+use Rattle.alone_laws.specs.Scaffold.Failing.{Fails}
+use Rattle.alone_laws.specs.Scaffold.Served.{Lively, Replies, served_by}
 use Rattle.alone_laws.proofs.QuantumFaults.{failed-step}
 use Rattle.alone_laws.proofs.OneLive.{lively-step, no_locked}
 use Rattle.key_sequenced.specs.Changes.{records_for}
@@ -89,7 +89,7 @@ module _ (t : TxnName) (base : List Keyed) (top : ℕ) (p : State) (part ordinal
   one_entry (Asked q sync asked losses (Stamp stamp)) answer more h replies = absurd replies
   one_entry (Drew name floor a) answer more h replies = absurd h
 
-  pub one_row : (patience : ℕ) (row : List LogEntry) (answer : Answer) (more : List LogEntry) → IsRow patience part request row answer → Replies p (row ++ more) → OneRow p part request row answer
+  pub one_row : (patience : ℕ) (row : List LogEntry) (answer : Answer) (more : List LogEntry) → IsExchange patience part request row answer → Replies p (row ++ more) → OneRow p part request row answer
   one_row patience [] answer more h replies = absurd h
   one_row patience (e ∷ []) answer more h replies = one_entry e answer more h.0 replies
   one_row zero (e ∷ f ∷ es) answer more h replies = absurd h
@@ -161,7 +161,7 @@ module _ (r : Asker) (ordinal part : ℕ) (t : TxnName) (own : t ≡ record { se
 
   module _ (p : State) (here : Here table limits p) (lively : Lively t base top p) (stage : Stage) (awaits : Awaits p.blocks t statement range.high stage) (rows : List (List LogEntry)) (end : Option Abort)
       (sync losses : ℕ) (next : State) (next_is : (step p 1 sync (ask_here stage)).state ≡ next)
-      (rest : (subset : ℕ) (last : List ℕ) → AreRows r ordinal part (Continue subset last) rows end → Awaits next.blocks t statement range.high (Onward subset last) → CameTo next (Onward subset last) (joined rows) end) where
+      (rest : (subset : ℕ) (last : List ℕ) → AreExchanges r ordinal part (Continue subset last) rows end → Awaits next.blocks t statement range.high (Onward subset last) → CameTo next (Onward subset last) (joined rows) end) where
     abbrev entry : PartitionReply → LogEntry
     entry x = Asked part sync (ask_here stage) losses (Reply x)
 
@@ -173,7 +173,7 @@ module _ (r : Asker) (ordinal part : ℕ) (t : TxnName) (own : t ≡ record { se
 
     by_reply : (x : PartitionReply) → fits_subset x ≡ true → ((lock : Lock) → x ≡ reply.Locked lock → ⊥) → (step p 1 sync (ask_here stage)).reply ≡ Some x
         → SubsetTells table statement t stage (start_at range stage) range.high p.cells x next.cells next.blocks
-        → AfterRow (Reply x) (λ subset last. AreRows r ordinal part (Continue subset last) rows end) rows end → Behind x
+        → AfterRow (Reply x) (λ subset last. AreExchanges r ordinal part (Continue subset last) rows end) rows end → Behind x
     by_reply (reply.Ended out changed) fit unlocked told tells (none, whole) =
         let is = is_interval (reply.Ended out changed) in
         let one : Sweeps table statement (start_at range stage) range.high (records p.cells) (entry (reply.Ended out changed) ∷ []) (records next.cells) =
@@ -240,7 +240,7 @@ module _ (r : Asker) (ordinal part : ℕ) (t : TxnName) (own : t ≡ record { se
       was x fit = absurd (false≢true fit)
 
   -- the list of a subset
-  pub list_came : (rows : List (List LogEntry)) (p : State) (stage : Stage) (end : Option Abort) → AreRows r ordinal part (ask_at statement granule range stage) rows end → Replies p (joined rows) → Here table limits p → Lively t base top p
+  pub list_came : (rows : List (List LogEntry)) (p : State) (stage : Stage) (end : Option Abort) → AreExchanges r ordinal part (ask_at statement granule range stage) rows end → Replies p (joined rows) → Here table limits p → Lively t base top p
       → Awaits p.blocks t statement range.high stage → CameTo p stage (joined rows) end
   list_came [] p stage end rows_are replies here lively awaits = absurd rows_are
   list_came (row ∷ rows) p stage end (answer, is_row, after) replies here lively awaits =
@@ -249,7 +249,7 @@ module _ (r : Asker) (ordinal part : ℕ) (t : TxnName) (own : t ≡ record { se
       (λ subset last next blocks. list_came rows q (Onward subset last) end next behind (here-step table limits p 1 o.sync (ask_here stage) (omega arith, omega arith) here)
       (lively-step t base top p o.sync (ask_here stage) own (open_ask statement granule range stage set) lively) blocks)
       o.r fit o.unlocked o.told (tells_of p here stage awaits o.sync o.r fit o.told)
-      (subst (λ a. AfterRow a (λ subset last. AreRows r ordinal part (Continue subset last) rows end) rows end) o.answer_is after))
+      (subst (λ a. AfterRow a (λ subset last. AreExchanges r ordinal part (Continue subset last) rows end) rows end) o.answer_is after))
     where
       o : OneRow p part (ask_here stage) row answer
       o = one_row t base top p part ordinal (ask_at statement granule range stage) own lively r.limits.patience row answer (joined rows) is_row replies

@@ -22,7 +22,7 @@ use Rattle.partition_map.specs.Map.{part_of}
 use Rattle.range_finder.specs.Range.{is_in, range}
 use Rattle.run_record.specs.Tiles.{FaultFree}
 use Rattle.run_record.proofs.EntryLists.{all_joined}
-use Rattle.serial_passes.specs.Pieces.{AreOf, in_range}
+use Rattle.serial_passes.specs.Scaffold.Pieces.{AreOf, in_range}
 use Rattle.serial_passes.proofs.Blocks.{AreKeyed, ranged, rows_in}
 use Rattle.serial_passes.proofs.Placings.{IsAbsent, absent_of, no_duplicate}
 use Rattle.serial_passes.proofs.Sweeping.{Sweeps}

@@ -1,4 +1,2 @@
-pub mod Served
-pub mod Failing
-pub mod States
 pub mod Laws
+pub mod Scaffold

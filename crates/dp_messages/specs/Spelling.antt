@@ -126,8 +126,8 @@ IsLong xs = length xs ≤ 65535
 abbrev pub AreDistinct : List ℕ → Type 0
 AreDistinct columns = IsShort columns × (all_differ nat_eq columns ≡ true)
 
-abbrev pub AreRows : List (List ℕ) → Type 0
-AreRows rows = IsLong rows × AllByRecursion IsLong rows
+abbrev pub AreRowBytes : List (List ℕ) → Type 0
+AreRowBytes rows = IsLong rows × AllByRecursion IsLong rows
 
 abbrev pub IsFault : Fault → Type 0
 IsFault fault.Overflow = Unit {0}
@@ -159,8 +159,8 @@ pub record IsEnvelope (e : Envelope) : Type 0 where
 
 -- a reply that has a spelling
 abbrev pub IsReply : Reply → Type 0
-IsReply (Ended rows changed) = AreRows rows × HasFour changed
-IsReply (Redrive subset last why rows changed) = HasFour subset × IsShort last × AreRows rows × HasFour changed
+IsReply (Ended rows changed) = AreRowBytes rows × HasFour changed
+IsReply (Redrive subset last why rows changed) = HasFour subset × IsShort last × AreRowBytes rows × HasFour changed
 IsReply (Locked lock) = IsLock lock
 IsReply (Failed key why) = IsShort key × IsFault why
 IsReply (Row row) = IsLong row

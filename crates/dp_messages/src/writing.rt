@@ -3,7 +3,7 @@
 ghost use Rattle.std.specs.Prelude.{◌≡◌, ◌++◌, ◌∷◌, [], OnOk, IfSome};
 ghost use Rattle.std.specs.Int.{w16, to_be_bytes};
 ghost use Rattle.sql_base.specs.Codes.{counted};
-ghost use Rattle.dp_messages.specs.Spelling.{access_byte, ask_bytes, begin_bytes, cause_byte, eight, fault_bytes, four, lock_bytes, mode_byte, optional, reply_bytes, request_bytes, rows_bytes, sized, AreRows, IsAsk, IsEnvelope, IsLock, IsLong, IsReply, IsShort};
+ghost use Rattle.dp_messages.specs.Spelling.{access_byte, ask_bytes, begin_bytes, cause_byte, eight, fault_bytes, four, lock_bytes, mode_byte, optional, reply_bytes, request_bytes, rows_bytes, sized, AreRowBytes, IsAsk, IsEnvelope, IsLock, IsLong, IsReply, IsShort};
 
 use crate::replies::Reply;
 use crate::requests::{Ask, Envelope};
@@ -77,7 +77,7 @@ fn put_optional(out: &mut Vec<u8>, code: &Option<Code>) -> Result<(), NoMemory>
 }
 
 fn put_rows(out: &mut Vec<u8>, rows: &[Packed]) -> Result<(), NoMemory>
-    requires { AreRows rows.now }
+    requires { AreRowBytes rows.now }
     ensures { OnOk result (out.new.items ≡ out.old.items ++ rows_bytes rows.now) }
 {
     put_two(out, rows.len() as u16)?;

@@ -15,7 +15,7 @@ use Rattle.run_record.specs.Legal.{AreServed, IsServed}
 use Rattle.record_laws.proofs.Lists.{all_at, all_both, all_weaker}
 use Rattle.record_laws.proofs.Served.{served_all}
 use Rattle.driver_laws.specs.Gathering.{Climbs, HasEntry, IsAskedIn, IsOver, ServedBySentences, SyncsClimb}
-use Rattle.sql_base.proofs.Lists.{Contains-further}
+use Rattle.sql_base.proofs.ListFacts.{Contains-further}
 
 -- what is in a list is its first, or behind it
 first_or_behind : {X : Type 0} (x y : X) (xs : List X) → Contains (x ∷ xs) y → (x ≡ y) ⊎ Contains xs y

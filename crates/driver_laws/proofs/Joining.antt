@@ -21,14 +21,14 @@ use Rattle.record_laws.proofs.Completing.{open_entry}
 use Rattle.record_laws.proofs.FitsSoFar.{zip_at}
 use Rattle.record_laws.proofs.Lists.{all_joined, all_through, all_weaker}
 use Rattle.record_laws.proofs.Sessions.{by_opener}
-use Rattle.driver_laws.specs.Gathering.{Gathered, HasEntry, IsAskedIn, IsHeard, SyncsClimb}
+use Rattle.driver_laws.specs.Gathering.{Gathered, HasEntry, IsAskedIn, HasItsEntry, SyncsClimb}
 use Rattle.driver_laws.specs.Moves.{IsPosted, asked_so_far}
 use Rattle.session_grammar.specs.UnderWay.{Sending, Awaiting, Drawing, UnderWay, unanswered}
 use Rattle.driver_laws.proofs.Gathering.{gathered}
 use Rattle.driver_laws.proofs.Journals.{stamps_gathered}
 use Rattle.driver_laws.proofs.Seats.{contains_filter}
 use Rattle.driver_laws.proofs.Serving.{asked_rises}
-use Rattle.sql_base.proofs.Lists.{all_places}
+use Rattle.sql_base.proofs.ListFacts.{all_places}
 
 -- of one opener
 abbrev SyncsRise : List Entry → Type 0
@@ -73,9 +73,9 @@ module _ (script : Script) (kept : RunRecord) (ways : List UnderWay) (g : Gather
   has =
       all_through (is_for part) (HasEntry es) (asked_so_far kept ways session)
       (all_joined (λ z. is_for part z ≡ true → HasEntry es z) (log_of kept session) (unanswered (way_of ways session))
-      (all_weaker (IsHeard kept session) (λ z. is_for part z ≡ true → HasEntry es z) told (log_of kept session) (g.heard session lies)) (not_told (way_of ways session)))
+      (all_weaker (HasItsEntry kept session) (λ z. is_for part z ≡ true → HasEntry es z) told (log_of kept session) (g.heard session lies)) (not_told (way_of ways session)))
     where
-      told : (z : LogEntry) → IsHeard kept session z → is_for part z ≡ true → HasEntry es z
+      told : (z : LogEntry) → HasItsEntry kept session z → is_for part z ≡ true → HasEntry es z
       told (Asked p s q l (Reply r)) h here =
           (h.0, contains_filter (by_opener session) (history_of kept part) h.0 (eq-eqb h.0.opener session h.2) (subst (λ n. Contains (history_of kept n) h.0) (eqb-true p part here) h.1), h.3, h.4)
       told (Asked p s q l PathFailed) h here = tt

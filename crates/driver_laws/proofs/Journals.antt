@@ -26,7 +26,7 @@ use Rattle.record_laws.proofs.Lists.{all_at, all_filter, all_passed, all_weaker}
 use Rattle.driver_laws.specs.Gathering.{JournalGathered}
 use Rattle.driver_laws.proofs.Seats.{contains_filter}
 use Rattle.run_record.proofs.DrawnLogs.{of_logs}
-use Rattle.sql_base.proofs.Lists.{all_places}
+use Rattle.sql_base.proofs.ListFacts.{all_places}
 
 abbrev is_of : ℕ → Drawn → Bool
 is_of session d = d.name.session == session

@@ -30,7 +30,7 @@ use Rattle.partition_laws.proofs.Steps.{Keeps-answered, Keeps-step}
 use Rattle.state_facts.proofs.Openings.{opened-fresh}
 use Rattle.record_laws.specs.SoFar.{LegalSoFar, way_of}
 use Rattle.record_laws.proofs.FitsSoFar.{IsFresh, fresh_from, zip_at}
-use Rattle.record_laws.specs.Standing.{PlansSuit}
+use Rattle.record_laws.specs.Scaffold.Standing.{PlansSuit}
 use Rattle.record_laws.proofs.Joined.{sends_fit-so_far}
 use Rattle.record_laws.proofs.Lists.{all_at, all_joined, all_through, all_weaker}
 use Rattle.record_laws.proofs.Served.{served_all}
@@ -40,7 +40,7 @@ use Rattle.driver_laws.specs.Moves.{MayAnswer, asked_so_far}
 use Rattle.session_grammar.specs.UnderWay.{AreAbove, IsAbove, Sending, Awaiting, Drawing, UnderWay, unanswered, IsOpen}
 use Rattle.driver_laws.proofs.Openings.{open_for, the_open}
 use Rattle.driver_laws.proofs.Seats.{contains_filter}
-use Rattle.sql_base.proofs.Lists.{all_at as found_of}
+use Rattle.sql_base.proofs.ListFacts.{all_at as found_of}
 
 -- the reply of a new request is kept
 told_kept : (p : State) (opener sync : ℕ) (request : Request) (reply : PartitionReply) → Keeps p → Lies 1 8 opener → (step p opener sync request).reply ≡ Some reply → (opener_of (step p opener sync request).state opener).kept ≡ Some reply

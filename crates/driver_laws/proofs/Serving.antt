@@ -28,7 +28,7 @@ use Rattle.record_laws.proofs.Lists.{all_at, all_filter, all_joined, all_through
 use Rattle.record_laws.proofs.Served.{served_all, served_split}
 use Rattle.driver_laws.specs.Gathering.{Climbs, IsOver}
 use Rattle.driver_laws.proofs.Openings.{none_or_one, open_for, the_open}
-use Rattle.sql_base.proofs.Lists.{all_places, slice_get-last}
+use Rattle.sql_base.proofs.ListFacts.{all_places, slice_get-last}
 
 -- what was asked has this sync or a later one
 abbrev pub NotBelow : ℕ → LogEntry → Type 0

@@ -46,11 +46,11 @@ HasEntry es (Asked part sync request losses (Stamp stamp)) = ⊥
 HasEntry es (Drew name floor answer) = Unit {0}
 
 -- a reply that a session heard is that of its entry
-abbrev pub IsHeard : RunRecord → ℕ → LogEntry → Type 0
-IsHeard kept session (Asked part sync request losses (Reply r)) = (e : Entry) × Contains (history_of kept part) e × (e.opener ≡ session) × (e.sync ≡ sync) × (e.reply ≡ r)
-IsHeard kept session (Asked part sync request losses PathFailed) = Unit {0}
-IsHeard kept session (Asked part sync request losses (Stamp stamp)) = ⊥
-IsHeard kept session (Drew name floor answer) = Unit {0}
+abbrev pub HasItsEntry : RunRecord → ℕ → LogEntry → Type 0
+HasItsEntry kept session (Asked part sync request losses (Reply r)) = (e : Entry) × Contains (history_of kept part) e × (e.opener ≡ session) × (e.sync ≡ sync) × (e.reply ≡ r)
+HasItsEntry kept session (Asked part sync request losses PathFailed) = Unit {0}
+HasItsEntry kept session (Asked part sync request losses (Stamp stamp)) = ⊥
+HasItsEntry kept session (Drew name floor answer) = Unit {0}
 
 -- what is known of the journal: its stamps rise, and each session drew in its log just the commits that have its number, in their order
 pub record JournalGathered (sessions : ℕ) (kept : RunRecord) : Type 0 where
@@ -65,7 +65,7 @@ pub record Gathered (script : Script) (kept : RunRecord) (ways : List UnderWay) 
   pub journal_drawn : JournalGathered (length script.sessions) kept
   pub openers : AllByRecursion (λ history. AllByRecursion (λ e. Lies 1 (length script.sessions) e.opener) history) kept.histories
   pub posted : (part : ℕ) → part < length kept.histories → AllByRecursion (λ e. IsPosted kept ways e.opener part e.sync e.request) (history_of kept part)
-  pub heard : (session : ℕ) → Lies 1 (length script.sessions) session → AllByRecursion (IsHeard kept session) (log_of kept session)
+  pub heard : (session : ℕ) → Lies 1 (length script.sessions) session → AllByRecursion (HasItsEntry kept session) (log_of kept session)
   pub logs_begin : LogsSoFar script kept ways
 
 -- what is served of requests with rising syncs, in two sentences: each entry was asked, and each reply has its entry

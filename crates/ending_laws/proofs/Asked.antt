@@ -15,7 +15,7 @@ use Rattle.session_grammar.specs.declared.logs.LogEntry.{LogEntry}
 use Rattle.session_grammar.specs.declared.logs.LogEntry.TheVariants.{Asked, Drew}
 use Rattle.session_grammar.specs.Follows.{AreEnds, ArePrepares, Attempt, InTurn, IsEnding, IsPart, Reads, entries_of, joined, touched}
 use Rattle.session_grammar.specs.Plans.{Asker, plan_of}
-use Rattle.session_grammar.specs.Rows.{IsAsked, IsRow}
+use Rattle.session_grammar.specs.Rows.{IsAsked, IsExchange}
 use Rattle.session_grammar.specs.UnderWay.{Awaiting, Drawing, IsAnswered, IsWith, Sending, UnderWay, unanswered}
 use Rattle.session_grammar.specs.declared.plans.Sent.{Sent}
 use Rattle.run_record.specs.Tiles.{sents_of}
@@ -57,7 +57,7 @@ module _ (S : ℕ → Ask → Type 0) where
     asked-one part request answer (Asked q sync other losses w) s h = subst (λ n. S n other.ask) (sym h.0) (subst (λ (y : Request). S part y.ask) (sym h.1) s)
     asked-one part request answer (Drew n f w) s h = tt
 
-    row-so : (ordinal patience part : ℕ) (ask : Ask) (row : List LogEntry) (answer : Answer) → S part ask → IsRow patience part (record { ordinal = ordinal; ask = ask }) row answer → AllByRecursion IsSo row
+    row-so : (ordinal patience part : ℕ) (ask : Ask) (row : List LogEntry) (answer : Answer) → S part ask → IsExchange patience part (record { ordinal = ordinal; ask = ask }) row answer → AllByRecursion IsSo row
     row-so ordinal patience part ask [] answer s h = absurd h
     row-so ordinal patience part ask (e ∷ []) answer s h = (asked-one part (record { ordinal = ordinal; ask = ask }) answer e s h.0, tt)
     row-so ordinal zero part ask (e ∷ f ∷ es) answer s h = absurd h

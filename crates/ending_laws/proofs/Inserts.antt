@@ -23,7 +23,7 @@ use Rattle.dp_messages.specs.declared.requests.Ask.TheVariants as ask
 use Rattle.partition_state.specs.State.{State}
 use Rattle.partition_laws.proofs.Lists.{all-each, all-map}
 use Rattle.session_grammar.specs.Follows.{asker}
-use Rattle.session_grammar.specs.Plans.{all_columns, begins, begins_in, filter_code, first_part, plan_of, plan_on, select_plan}
+use Rattle.session_grammar.specs.Plans.{all_columns, begin_pieces, begins_in, filter_code, first_part, plan_of, plan_on, select_plan}
 use Rattle.session_grammar.specs.declared.plans.Plan.TheVariants.{Singles, Subsets}
 use Rattle.session_grammar.specs.declared.plans.Sent.{Sent}
 use Rattle.run_record.specs.Openings.{openings}
@@ -44,7 +44,7 @@ module _ (P : List ℕ → Type 0) (script : Script) (session part : ℕ) (p : S
   IsGoodSent sent = GoodHere sent.part sent.ask
 
   begins-good : (table : TableDef) (place : ℕ) (found : KeyRange) (begin : List ℕ → KeyRange → Ask) → ((granule : List ℕ) (k : KeyRange) → IsGood P p.table (begin granule k))
-      → AllByRecursion IsGoodSent (begins (asker script session) table place found begin)
+      → AllByRecursion IsGoodSent (begin_pieces (asker script session) table place found begin)
   begins-good table place found begin good =
       let sent : Piece → Sent = λ piece. record { part = first_part (asker script session) place + piece.part; ask = begin (common_prefix found.low found.high) piece.range } in
       all-map IsGoodSent sent (cut table found) (all-each (λ piece. IsGoodSent (sent piece)) (cut table found) (λ piece. λ here. good (common_prefix found.low found.high) piece.range))
@@ -61,7 +61,7 @@ module _ (P : List ℕ → Type 0) (script : Script) (session part : ℕ) (p : S
     where
       by_one : (b : Bool) → AllByRecursion IsGoodSent (sents_of (if b
           then Singles (record { part = first_part (asker script session) place + part_of table found.low; ask = ask.ReadKey access found.low (filter_code predicate) columns } ∷ [])
-          else Subsets (begins (asker script session) table place found (λ granule piece. ask.BeginRead access granule piece (filter_code predicate) columns))))
+          else Subsets (begin_pieces (asker script session) table place found (λ granule piece. ask.BeginRead access granule piece (filter_code predicate) columns))))
       by_one true = ((λ here. tt), tt)
       by_one false = begins-good table place found (λ granule piece. ask.BeginRead access granule piece (filter_code predicate) columns) (λ granule k. tt)
 

@@ -17,7 +17,7 @@ use Rattle.record_laws.proofs.Lists.{all_filter, all_joined}
 use Rattle.run_record.specs.Openings.{openings, openings_from, rows_in_part}
 use Rattle.ending_laws.specs.Keys.{keys_in, loaded_keys}
 use Rattle.ending_laws.proofs.CellKeys.{KeysAre}
-use Rattle.sql_base.proofs.Lists.{all_at}
+use Rattle.sql_base.proofs.ListFacts.{all_at}
 
 module _ (P : List ℕ → Type 0) (script : Script) (all : AllByRecursion (λ (load : Load). AllByRecursion P (loaded_keys script.tables load)) script.loads) where
   abbrev HasRowKey : TableDef → List Value → Type 0

@@ -26,7 +26,7 @@ use Rattle.partition_laws.specs.Outcomes.{Begun, Found, Origin}
 use Rattle.partition_laws.proofs.BlocksOwn.{redriven}
 use Rattle.partition_laws.proofs.Lists.{all-map, all-passing}
 use Rattle.ending_laws.proofs.CellKeys.{KeysAre}
-use Rattle.sql_base.proofs.Lists.{all-take}
+use Rattle.sql_base.proofs.ListFacts.{all-take}
 
 -- the key is behind that after which the request goes on
 abbrev pub IsOnward : Ask → List ℕ → Type 0

@@ -10,10 +10,10 @@ use Rattle.sql_base.specs.declared.key_ranges.KeyRange.{KeyRange}
 use Rattle.sql_base.specs.declared.tables.Column.{Column}
 use Rattle.sql_base.specs.declared.tables.ColumnKind.{ColumnKind}
 use Rattle.sql_base.specs.declared.tables.TableDef.{TableDef}
-use Rattle.range_finder.specs.Range.{Bound, Interval, KeyColumn, filled, interval, key_columns, range_over, usable}
+use Rattle.range_finder.specs.Range.{Bound, ColumnInterval, KeyColumn, filled, interval, key_columns, range_over, usable}
 use Rattle.key_ranges.specs.Spans.{behind, in_front, span_left, with_kind}
 use Rattle.key_ranges.specs.declared.spans.Span.{Span}
-use Rattle.sql_base.proofs.Lists.{none-there}
+use Rattle.sql_base.proofs.ListFacts.{none-there}
 
 abbrev columns_at : List ColumnKind → List ℕ → List KeyColumn
 columns_at ks places = filter_map (λ c. option_map (λ kind. record { place = c; kind = kind }) (slice_get ks c)) places
@@ -67,7 +67,7 @@ drop_at_place columns i column at =
 in_front-is : (bounds : List Bound) (column : KeyColumn) (columns : List KeyColumn) → range_over bounds (column ∷ columns) ≡ in_front (span_left bounds column.place column.kind) columns (range_over bounds columns)
 in_front-is bounds column columns = at i.is_empty i.is_one
   where
-    i : Interval
+    i : ColumnInterval
     i = interval column.kind (usable column.place column.kind bounds)
 
     low : List ℕ

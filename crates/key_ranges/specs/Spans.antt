@@ -3,10 +3,10 @@ use Rattle.std.specs.Prelude.{ℕ, List, ◌++◌, replicate, unwrap_or, Option,
 use Rattle.sql_base.specs.Rows.{width}
 use Rattle.sql_base.specs.declared.key_ranges.KeyRange.{KeyRange}
 use Rattle.sql_base.specs.declared.tables.ColumnKind.{ColumnKind}
-use Rattle.range_finder.specs.Range.{Bound, Interval, KeyColumn, filled, interval, usable}
+use Rattle.range_finder.specs.Range.{Bound, ColumnInterval, KeyColumn, filled, interval, usable}
 use Rattle.key_ranges.specs.declared.spans.Span.{Span}
 
-abbrev pub span_in : ColumnKind → Interval → Option Span
+abbrev pub span_in : ColumnKind → ColumnInterval → Option Span
 span_in kind i =
     if i.is_empty
     then None

@@ -6,7 +6,7 @@ use Rattle.sql_base.specs.Locks.{same_txn}
 use Rattle.sql_base.specs.declared.lock_names.TxnName.{TxnName}
 use Rattle.sql_base.specs.declared.values.Value.{Value}
 use Rattle.key_sequenced.specs.Cells.{ending}
-use Rattle.key_sequenced.specs.Files.{ended}
+use Rattle.key_sequenced.specs.Files.{cell_ended}
 use Rattle.key_sequenced.specs.Changes.{is_written_by}
 use Rattle.key_sequenced.specs.declared.Cell.{Cell}
 
@@ -27,8 +27,8 @@ one-more : (f : Cell → Cell) (c : Cell) (cells left : List Cell) (b : Bool) �
 one-more f c cells left true h = ap (λ cs. f c ∷ cs) h
 one-more f c cells left false h = h
 
-pub ended-all : (t : TxnName) (kept : Cell → Option (List Value)) (cells : List Cell) → filter_map (λ c. ending t kept c c.writer) cells ≡ map (ended t kept) (filter (stays t kept) cells)
+pub ended-all : (t : TxnName) (kept : Cell → Option (List Value)) (cells : List Cell) → filter_map (λ c. ending t kept c c.writer) cells ≡ map (cell_ended t kept) (filter (stays t kept) cells)
 ended-all t kept [] = refl
 ended-all t kept (c ∷ cells) =
     ended-one t kept c (filter_map (λ x. ending t kept x x.writer) cells) c.writer (kept c) refl
-    ∙ one-more (ended t kept) c (filter_map (λ x. ending t kept x x.writer) cells) (filter (stays t kept) cells) (stays t kept c) (ended-all t kept cells)
+    ∙ one-more (cell_ended t kept) c (filter_map (λ x. ending t kept x x.writer) cells) (filter (stays t kept) cells) (stays t kept c) (ended-all t kept cells)

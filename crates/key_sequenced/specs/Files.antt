@@ -20,8 +20,8 @@ with_cell cell [] = cell ∷ []
 with_cell cell (c ∷ cells) = if key_lt cell.key c.key then cell ∷ c ∷ cells else c ∷ with_cell cell cells
 
 -- a cell that holds a row, with nothing pending
-abbrev pub loaded : List ℕ → List Value → Cell
-loaded key row = record { key = key; now = Some row; was = None; writer = None }
+abbrev pub loaded_cell : List ℕ → List Value → Cell
+loaded_cell key row = record { key = key; now = Some row; was = None; writer = None }
 
 -- the key is that of the cell
 abbrev pub is_key_of : List ℕ → Option Cell → Bool
@@ -34,5 +34,5 @@ rewritten_at t key now [] = []
 rewritten_at t key now (cell ∷ cells) = if key_eq cell.key key then rewritten t now cell ∷ cells else cell ∷ rewritten_at t key now cells
 
 -- the cell that stays after the end of t
-abbrev pub ended : TxnName → (Cell → Option (List Value)) → Cell → Cell
-ended t kept cell = unwrap_or (ending t kept cell cell.writer) cell
+abbrev pub cell_ended : TxnName → (Cell → Option (List Value)) → Cell → Cell
+cell_ended t kept cell = unwrap_or (ending t kept cell cell.writer) cell

@@ -1,7 +1,7 @@
 //! What the end of a transaction leaves of its changes.
 ghost use Rattle.std.specs.Prelude.{◌≡◌, ◌≤◌, map, vec_len, vec_capacity};
-ghost use Rattle.key_sequenced.specs.Cells.{restored, settled};
-ghost use Rattle.key_sequenced.specs.Files.{ended};
+ghost use Rattle.key_sequenced.specs.Cells.{restored, cells_settled};
+ghost use Rattle.key_sequenced.specs.Files.{cell_ended};
 ghost use Rattle.key_sequenced.specs.Changes.{is_written_by};
 
 use crate::Cell;
@@ -18,7 +18,7 @@ pub fn restore(cells: &mut Vec<Cell>, t: TxnName)
 }
 
 fn undo_all(cells: &mut Vec<Cell>, t: TxnName)
-    ensures items { cells.new.items ≡ map (ended t (λ c. c.was)) cells.old.items }
+    ensures items { cells.new.items ≡ map (cell_ended t (λ c. c.was)) cells.old.items }
     ensures len { vec_len cells.new ≡ vec_len cells.old }
     ensures capacity { vec_capacity cells.new ≡ vec_capacity cells.old }
 {
@@ -29,7 +29,7 @@ fn undo_all(cells: &mut Vec<Cell>, t: TxnName)
 
 /// Makes the changes of a transaction good.
 pub fn settle(cells: &mut Vec<Cell>, t: TxnName)
-    ensures items { cells.new.items ≡ settled t cells.old.items }
+    ensures items { cells.new.items ≡ cells_settled t cells.old.items }
     ensures len { vec_len cells.new ≤ vec_len cells.old }
     ensures capacity { vec_capacity cells.new ≡ vec_capacity cells.old }
 {
@@ -38,7 +38,7 @@ pub fn settle(cells: &mut Vec<Cell>, t: TxnName)
 }
 
 fn make_good_all(cells: &mut Vec<Cell>, t: TxnName)
-    ensures items { cells.new.items ≡ map (ended t (λ c. c.now)) cells.old.items }
+    ensures items { cells.new.items ≡ map (cell_ended t (λ c. c.now)) cells.old.items }
     ensures len { vec_len cells.new ≡ vec_len cells.old }
     ensures capacity { vec_capacity cells.new ≡ vec_capacity cells.old }
 {
@@ -48,7 +48,7 @@ fn make_good_all(cells: &mut Vec<Cell>, t: TxnName)
 }
 
 fn undo(cell: &mut Cell, t: TxnName)
-    ensures { cell.new ≡ ended t (λ c. c.was) cell.old }
+    ensures { cell.new ≡ cell_ended t (λ c. c.was) cell.old }
 {
     if is_of(cell, t) && cell.was.is_some() {
         cell.now = cell.was.take();
@@ -57,7 +57,7 @@ fn undo(cell: &mut Cell, t: TxnName)
 }
 
 fn make_good(cell: &mut Cell, t: TxnName)
-    ensures { cell.new ≡ ended t (λ c. c.now) cell.old }
+    ensures { cell.new ≡ cell_ended t (λ c. c.now) cell.old }
 {
     if is_of(cell, t) && cell.now.is_some() {
         cell.was = None;

@@ -1,8 +1,8 @@
 //! A file, as its callers see it.
 ghost use Rattle.std.specs.Prelude.{◌≡◌, ◌≤◌, ◌<◌, ◌+◌, [], None, Some, find, option_copied, OnOk};
-ghost use Rattle.key_sequenced.specs.Cells.{AreCells, find_cell, inserted, restored, settled};
+ghost use Rattle.key_sequenced.specs.Cells.{AreCells, find_cell, inserted, restored, cells_settled};
 ghost use Rattle.sql_base.specs.Keys.{is_from};
-ghost use Rattle.key_sequenced.specs.Files.{with_cell, loaded, rewritten_at};
+ghost use Rattle.key_sequenced.specs.Files.{with_cell, loaded_cell, rewritten_at};
 
 use crate::Cell;
 use crate::changes::{lay, put, rewrite_at};
@@ -57,7 +57,7 @@ impl File {
     pub fn load(&mut self, key: Key, row: Row)
         requires room { 0 < self.old.spare }
         requires free { find_cell key self.old.cells ≡ None }
-        ensures cells { self.new.cells ≡ with_cell (loaded key row) self.old.cells }
+        ensures cells { self.new.cells ≡ with_cell (loaded_cell key row) self.old.cells }
         ensures spare { self.old.spare ≤ self.new.spare + 1 }
     {
         lay(
@@ -128,7 +128,7 @@ impl File {
 
     /// Makes the changes of a transaction good.
     pub fn settle(&mut self, writer: TxnName)
-        ensures cells { self.new.cells ≡ settled writer self.old.cells }
+        ensures cells { self.new.cells ≡ cells_settled writer self.old.cells }
         ensures spare { self.old.spare ≤ self.new.spare }
     {
         settle(&mut self.cells, writer);

@@ -2,7 +2,7 @@
 ghost use Rattle.std.specs.Prelude.{◌≡◌, ◌<◌, ◌≤◌, ◌+◌, ◌++◌, ◌∷◌, [], insert, length, position, option_copied, vec_len, vec_capacity, IfOk, OnOk, OnErr};
 ghost use Rattle.std.specs.List.{list_any, position_or_len};
 ghost use Rattle.sql_base.specs.Locks.{conflicts, covers, first_conflict, granted, released};
-ghost use Rattle.lock_tables.specs.LockTables.{Answers, is_behind, table_of};
+ghost use Rattle.lock_tables.specs.LockTables.{AnswersGrant, is_behind, lock_table_of};
 
 use crate::faults::LockFault;
 use crate::orders::{bars, compare, is_cover};
@@ -28,10 +28,10 @@ pub fn first_bar<'a>(
 
 /// Grants a lock, unless another's lock conflicts with it. An own lock that covers it stands for it.
 pub fn grant(locks: &mut Vec<Lock>, lock: Lock) -> Result<(), LockFault>
-    ensures answer { Answers (table_of locks.old) lock result }
+    ensures answer { AnswersGrant (lock_table_of locks.old) lock result }
     ensures ok { OnOk result (locks.new.items ≡ granted lock locks.old.items) }
     ensures err { OnErr result (locks.new.items ≡ locks.old.items) }
-    ensures spare { (table_of locks.old).spare ≤ (table_of locks.new).spare + 1 }
+    ensures spare { (lock_table_of locks.old).spare ≤ (lock_table_of locks.new).spare + 1 }
 {
     if let Some(at) = conflict_at(locks, &lock) {
         return Err(LockFault::Conflict { at });
@@ -50,7 +50,7 @@ pub fn grant(locks: &mut Vec<Lock>, lock: Lock) -> Result<(), LockFault>
 pub fn admit(locks: &mut Vec<Lock>, lock: Lock)
     requires room { vec_len locks.old < vec_capacity locks.old }
     ensures items { locks.new.items ≡ granted lock locks.old.items }
-    ensures spare { (table_of locks.old).spare ≤ (table_of locks.new).spare + 1 }
+    ensures spare { (lock_table_of locks.old).spare ≤ (lock_table_of locks.new).spare + 1 }
 {
     if is_covered(locks, &lock) {
         return;
@@ -99,7 +99,7 @@ fn first_behind(locks: &[Lock], lock: &Lock) -> Option<usize>
 /// Gives up the locks of a transaction.
 pub fn release(locks: &mut Vec<Lock>, t: TxnName)
     ensures items { locks.new.items ≡ released t locks.old.items }
-    ensures spare { (table_of locks.old).spare ≤ (table_of locks.new).spare }
+    ensures spare { (lock_table_of locks.old).spare ≤ (lock_table_of locks.new).spare }
 {
     locks.retain(|lock| lock.holder != t);
 }

@@ -1,7 +1,7 @@
 //! A table of locks, as its callers see it.
 ghost use Rattle.std.specs.Prelude.{◌≡◌, ◌<◌, ◌≤◌, ◌+◌, [], option_copied, IfOk, OnOk, OnErr};
 ghost use Rattle.sql_base.specs.Locks.{first_conflict, granted, released, InTableOrder};
-ghost use Rattle.lock_tables.specs.LockTables.{Answers};
+ghost use Rattle.lock_tables.specs.LockTables.{AnswersGrant};
 
 use crate::faults::LockFault;
 use crate::rows::{admit, copies, first_bar, grant, release};
@@ -52,7 +52,7 @@ impl LockTable {
 
     /// Grants a lock, unless another's lock conflicts with it. An own lock that covers it stands for it.
     pub fn grant(&mut self, lock: Lock) -> Result<(), LockFault>
-        ensures answer { Answers self.old lock result }
+        ensures answer { AnswersGrant self.old lock result }
         ensures ok { OnOk result (self.new.locks ≡ granted lock self.old.locks) }
         ensures err { OnErr result (self.new.locks ≡ self.old.locks) }
         ensures spare { self.old.spare ≤ self.new.spare + 1 }

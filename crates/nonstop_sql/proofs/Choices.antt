@@ -7,7 +7,7 @@ use Rattle.std.specs.Str.Parse.{ParsesUnsigned, digits_value}
 use Rattle.std.proofs.lemmas.List.{map-append, take_more}
 use Rattle.std.proofs.lemmas.Str.Parse.{IsNumeralModel, numerals_by_value, parse_plain}
 use Rattle.std.proofs.lemmas.Result.{OkIff-at_ok}
-use Rattle.nonstop_sql.specs.Commands.{Asks, IsChoice, IsLine}
+use Rattle.nonstop_sql.specs.Commands.{AsksFor, IsChoice, IsLine}
 use Rattle.nonstop_sql.specs.declared.commands.Command.{Command}
 use Rattle.nonstop_sql.specs.declared.commands.Command.TheVariants.{Check, Oracle, Steps}
 
@@ -76,7 +76,7 @@ module _ (name : List ℕ) (words : List (List ℕ)) where
   not_both : {n m : List ℕ} → length n ≢ length m → name ≡ n → name ≡ m → ⊥
   not_both differ a b = differ (ap length (sym a ∙ b))
 
-  pub one_asked : (a b : Command) → Asks name words a → Asks name words b → a ≡ b
+  pub one_asked : (a b : Command) → AsksFor name words a → AsksFor name words b → a ≡ b
   one_asked Check Check h k = refl
   one_asked Oracle Oracle h k = refl
   one_asked (Steps xs) (Steps ys) h k = ap Steps (same_choices words xs ys h.1.each k.1.each)

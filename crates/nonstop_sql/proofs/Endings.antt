@@ -6,7 +6,7 @@ use Rattle.std.specs.List.{suffix_len}
 use Rattle.std.proofs.lemmas.Bool.{cases_lt}
 use Rattle.std.proofs.lemmas.List.{take_all, drop_all, take-take, length-take-le}
 use Rattle.outside.specs.Counter.{Rose}
-use Rattle.statement_reader.specs.Spells.{FaultOf, Spells, Reads, IsFault, IsRefusal}
+use Rattle.statement_reader.specs.Spells.{FaultOf, Spells, ReadsAs, IsFault, IsRefusal}
 use Rattle.statement_words.specs.Words.{words_of}
 use Rattle.statement_reader.proofs.Refusals.{spelled_once}
 use Rattle.step_world.specs.Tellings.{Telling}
@@ -141,7 +141,7 @@ module _ (asked : Command) (wires : List Telling) where
   }
 
   -- the reader gave no script
-  pub reader-refused : (bytes : List ℕ) (error : ReadFault) (taken taken' : Option (List ℕ)) (faults faults' : ℕ) → ((s : Script) → Spells bytes s → Reads (Err error) s)
+  pub reader-refused : (bytes : List ℕ) (error : ReadFault) (taken taken' : Option (List ℕ)) (faults faults' : ℕ) → ((s : Script) → Spells bytes s → ReadsAs (Err error) s)
       → IsRefusal bytes error → Keeps taken taken' → EndsOnBytes asked wires bytes taken taken' faults faults' (refusal_of error)
   reader-refused bytes (reads.Script fault) taken taken' faults faults' only refusal keeps = bytes-refused bytes fault taken taken' faults faults' only refusal keeps
   reader-refused bytes reads.NoMemory taken taken' faults faults' only refusal keeps = bytes-short bytes taken taken' faults faults' keeps

@@ -20,14 +20,14 @@ pub record AreChoices (words : List (List ℕ)) (choices : List ℕ) : Type 0 wh
   pub each : AllZip IsChoice words choices
 
 -- what the words behind the program's name ask for: `check` and `oracle` stand alone, `steps` takes choices
-abbrev pub Asks : List ℕ → List (List ℕ) → Command → Type 0
-Asks name words Check = (name ≡ codes "check") × (words ≡ [])
-Asks name words Oracle = (name ≡ codes "oracle") × (words ≡ [])
-Asks name words (Steps choices) = (name ≡ codes "steps") × AreChoices words choices
+abbrev pub AsksFor : List ℕ → List (List ℕ) → Command → Type 0
+AsksFor name words Check = (name ≡ codes "check") × (words ≡ [])
+AsksFor name words Oracle = (name ≡ codes "oracle") × (words ≡ [])
+AsksFor name words (Steps choices) = (name ≡ codes "steps") × AreChoices words choices
 
 -- a command line; the first word is the program's name, and isn't judged
 abbrev pub IsLine : List (List ℕ) → Command → Type 0
-IsLine (program ∷ name ∷ words) command = Asks name words command
+IsLine (program ∷ name ∷ words) command = AsksFor name words command
 IsLine words command = ⊥
 
 abbrev pub IsCommand : List (String Global) → Command → Type 0

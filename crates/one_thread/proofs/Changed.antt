@@ -18,10 +18,10 @@ use Rattle.sql_base.specs.declared.tables.TableDef.{TableDef}
 use Rattle.sql_base.specs.declared.values.Value.{Value}
 use Rattle.range_finder.specs.Range.{is_in, range}
 use Rattle.one_thread.specs.One.{became, fate, fault_in, meets, predicate_of, row_after, selects, statement_fault, Records}
-use Rattle.one_thread.specs.Cells.{now_of, nows, IsKeyed}
-use Rattle.one_thread.specs.Scans.{abort_by, change_abort, changed, changed_by, checked_fate, delete_fate, fate_at, first_abort, if_true, is_change, is_changed, new_fate, or_later, row_fate, shown, update_fate}
-use Rattle.one_thread.specs.Statements.{Changing}
-use Rattle.one_thread.specs.Values.{truth_of}
+use Rattle.one_thread.specs.Scaffold.Cells.{now_of, nows, IsKeyed}
+use Rattle.one_thread.specs.Scaffold.Scans.{abort_by, change_abort, changed, changed_by, checked_fate, delete_fate, fate_at, first_abort, if_true, is_change, is_changed, new_fate, or_later, row_fate, shown, update_fate}
+use Rattle.one_thread.specs.Scaffold.Statements.{Changing}
+use Rattle.one_thread.specs.Scaffold.Values.{truth_of}
 use Rattle.one_thread.specs.declared.cells.Cell.{Cell}
 use Rattle.one_thread.specs.declared.scans.Fate.{Fate}
 use Rattle.one_thread.specs.declared.scans.Fate.TheVariants.{Stays}

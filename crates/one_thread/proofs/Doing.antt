@@ -20,15 +20,15 @@ use Rattle.sql_base.specs.declared.statements.Statement.TheVariants.{Select, Upd
 use Rattle.sql_base.specs.declared.tables.TableDef.{TableDef}
 use Rattle.range_finder.specs.Range.{is_in, range}
 use Rattle.one_thread.specs.One.{done_unless, fate, fault_in, given_of, one_on, predicate_of, selects, Done, IsScan, Records}
-use Rattle.one_thread.specs.Cells.{now_of, nows, AreCells, IsKeyed}
-use Rattle.one_thread.specs.Scans.{abort_by, abort_on, change_abort, changed, fate_at, first_abort, is_changed, read_abort, shown, ChangesIn, ReadsIn}
-use Rattle.one_thread.specs.Statements.{Changing, Does, Selects}
+use Rattle.one_thread.specs.Scaffold.Cells.{now_of, nows, AreCells, IsKeyed}
+use Rattle.one_thread.specs.Scaffold.Scans.{abort_by, abort_on, change_abort, changed, fate_at, first_abort, is_changed, read_abort, shown, ChangesIn, ReadsIn}
+use Rattle.one_thread.specs.Scaffold.Statements.{Changing, Does, Selects}
 use Rattle.one_thread.specs.declared.cells.Cell.{Cell}
 use Rattle.one_thread.proofs.Changed.{records_abort, records_changed, records_read}
 use Rattle.one_thread.proofs.Fates.{kept_all, scans_are_one}
 use Rattle.one_thread.proofs.Keeping.{alike_both, alike_changed, alike_keys, alike_same, now_changed, restorable, Alike}
 use Rattle.one_thread.proofs.Sweeps.{change_fault, read_fault, window_abort, window_filter, window_map, window_values}
-use Rattle.sql_base.proofs.Lists.{all_both, all_left, all_right}
+use Rattle.sql_base.proofs.ListFacts.{all_both, all_left, all_right}
 
 is_scan : (s : Statement) → Changing s → IsScan s
 is_scan (Update t sets predicate access) h = tt

@@ -12,10 +12,10 @@ use Rattle.sql_base.specs.declared.scripts.Load.{Load}
 use Rattle.sql_base.specs.declared.scripts.Script.{Script}
 use Rattle.sql_base.specs.declared.tables.TableDef.{TableDef}
 use Rattle.sql_base.specs.declared.values.Value.{Value}
-use Rattle.one_thread.specs.Cells.{before_of, befores, now_of, nows, AreCells, IsKeyed}
-use Rattle.one_thread.specs.Loading.{cell_of, Opens}
+use Rattle.one_thread.specs.Scaffold.Cells.{before_of, befores, now_of, nows, AreCells, IsKeyed}
+use Rattle.one_thread.specs.Scaffold.Loading.{cell_of, Opens}
 use Rattle.one_thread.specs.One.{load_rows, Records}
-use Rattle.one_thread.specs.Worlds.{AreAll}
+use Rattle.one_thread.specs.Scaffold.Worlds.{AreAll}
 use Rattle.one_thread.specs.declared.cells.Cell.{Cell}
 use Rattle.one_thread.proofs.Rising.{keys}
 use Rattle.one_thread.proofs.Spots.{row-length}

@@ -10,12 +10,12 @@ use Rattle.sql_base.specs.declared.statements.Statement.{Statement}
 use Rattle.sql_base.specs.declared.tables.TableDef.{TableDef}
 use Rattle.sql_base.specs.declared.values.Value.{Value}
 use Rattle.one_thread.specs.One.{on_table, one, one_on, Done, World}
-use Rattle.one_thread.specs.Cells.{before_of, befores, ended, now_of, nows, AreCells, IsKeyed}
-use Rattle.one_thread.specs.Statements.{Does, Restorable}
-use Rattle.one_thread.specs.Worlds.{world_of, AreAll, Keeps, Moves, Settled}
+use Rattle.one_thread.specs.Scaffold.Cells.{before_of, befores, ended, now_of, nows, AreCells, IsKeyed}
+use Rattle.one_thread.specs.Scaffold.Statements.{Does, Restorable}
+use Rattle.one_thread.specs.Scaffold.Worlds.{world_of, AreAll, Keeps, Moves, Settled}
 use Rattle.one_thread.specs.declared.cells.Cell.{Cell}
 use Rattle.one_thread.proofs.Rising.{keys}
-use Rattle.sql_base.proofs.Lists.{map_set}
+use Rattle.sql_base.proofs.ListFacts.{map_set}
 
 -- ---- tables at a place
 

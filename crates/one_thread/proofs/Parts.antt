@@ -11,8 +11,8 @@ use Rattle.sql_base.specs.Rows.{key_of}
 use Rattle.sql_base.specs.declared.tables.TableDef.{TableDef}
 use Rattle.sql_base.specs.declared.values.Value.{Value}
 use Rattle.sql_base.proofs.KeyOrders.{key_eq-refl, lt-trans}
-use Rattle.one_thread.specs.One.{placed}
-use Rattle.one_thread.specs.Cells.{IsKeyed}
+use Rattle.one_thread.specs.One.{row_placed}
+use Rattle.one_thread.specs.Scaffold.Cells.{IsKeyed}
 use Rattle.one_thread.specs.declared.cells.Cell.{Cell}
 use Rattle.one_thread.proofs.Rising.{keys, rise-rest}
 use Rattle.sql_base.proofs.Orderings.{key_gt-differs, key_lt-back, key_lt-differs, key_lt-other}
@@ -98,7 +98,7 @@ module _ (table : TableDef) (key : List ℕ) (row_of : Cell → Option (List Val
   rows_have Q (c ∷ cells) are h = row_by Q c.key (row_of c) (filter_map row_of cells) are.0 h.0 (rows_have Q cells are.1 h.1)
 
   pub placed_between : (row : List Value) (xs ys : List (List Value)) → key_of table row ≡ key → AllByRecursion (λ r. key_lt (key_of table r) key ≡ true) xs → AllByRecursion (λ r. key_lt key (key_of table r) ≡ true) ys
-      → placed table row (xs ++ ys) ≡ xs ++ row ∷ ys
+      → row_placed table row (xs ++ ys) ≡ xs ++ row ∷ ys
   placed_between row [] [] e below over = refl
   placed_between row [] (y ∷ ys) e below over = rw (e, over.0) refl
   placed_between row (x ∷ xs) ys e below over = rw (e, key_lt-back (key_of table x) key below.0) (ap (λ rows. x ∷ rows) (placed_between row xs ys e below.1 over))

@@ -4,7 +4,7 @@ use Rattle.std.specs.List.Sorted.{IsPartitionedBy, IsPartitionPoint}
 use Rattle.sql_base.specs.Keys.{is_within, key_le, key_lt, Rise}
 use Rattle.sql_base.proofs.KeyOrders.{lt-trans, le_from_not_lt, not_le_from_lt}
 use Rattle.sql_base.specs.declared.key_ranges.KeyRange.{KeyRange}
-use Rattle.one_thread.specs.Windows.{IsWindow}
+use Rattle.one_thread.specs.Scaffold.Windows.{IsWindow}
 use Rattle.one_thread.specs.declared.cells.Cell.{Cell}
 
 abbrev pub keys : List Cell → List (List ℕ)

@@ -10,10 +10,10 @@ use Rattle.sql_base.specs.declared.scripts.Work.{Work}
 use Rattle.sql_base.specs.declared.statements.Statement.{Statement}
 use Rattle.sql_base.specs.declared.tables.TableDef.{TableDef}
 use Rattle.one_thread.specs.Answer.{outcome_of}
-use Rattle.one_thread.specs.Cells.{before_of, befores, ended, now_of, nows}
+use Rattle.one_thread.specs.Scaffold.Cells.{before_of, befores, ended, now_of, nows}
 use Rattle.one_thread.specs.One.{one, run_from, run_work, Aborts, Commits, Ran, RollsBack, World}
-use Rattle.one_thread.specs.Runs.{IsRun}
-use Rattle.one_thread.specs.Worlds.{world_of, AreAll, Moves, Settled}
+use Rattle.one_thread.specs.Scaffold.Runs.{RunsWork}
+use Rattle.one_thread.specs.Scaffold.Worlds.{world_of, AreAll, Moves, Settled}
 use Rattle.one_thread.specs.declared.cells.Cell.{Cell}
 use Rattle.one_thread.specs.declared.transactions.Run.{Run}
 use Rattle.one_thread.proofs.Moving.{after_commit, after_undo, settled}
@@ -45,7 +45,7 @@ goes tables work old world new given more s rest g r m is = record {
 
 -- a statement that aborts the transaction
 pub aborts : (tables : List TableDef) (work : Work) (stamp : ℕ) (old world new : List (List Cell)) (given : List Given) (s : Statement) (rest : List Statement) (abort : Abort) → Running tables work old world given (s ∷ rest) → Moves tables s world new (Err abort)
-    → IsRun tables work stamp old (map (map (ended false)) new) (record { outcome = Aborted abort; given = [] })
+    → RunsWork tables work stamp old (map (map (ended false)) new) (record { outcome = Aborted abort; given = [] })
 aborts tables work stamp old world new given s rest abort r m =
     let ran : run_work (world_of tables old) work ≡ record { ending = Aborts abort; given = []; world = world_of tables old } = sym r.goes_on ∙ stops (one (world_of tables world) s).0 refl m.0 in
     let undone : world_of tables (map (map (ended false)) new) ≡ world_of tables old = ap {B = World} (λ records. record { tables = tables; records = records }) (after_undo new ∙ m.1.before ∙ r.same) in
@@ -62,7 +62,7 @@ aborts tables work stamp old world new given s rest abort r m =
 
 -- the end of its statements
 pub finishes : (tables : List TableDef) (work : Work) (stamp : ℕ) (old world : List (List Cell)) (given : List Given) (run : Run) (b : Bool) → Running tables work old world given [] → work.commit ≡ b → run.outcome ≡ cond b (Committed stamp) RolledBack → run.given ≡ given
-    → IsRun tables work stamp old (map (map (ended b)) world) run
+    → RunsWork tables work stamp old (map (map (ended b)) world) run
 finishes tables work stamp old world given run true r commits outcome-is given-is =
     let ran : run_work (world_of tables old) work ≡ record { ending = Commits; given = given; world = world_of tables world } = sym r.goes_on ∙ rw commits refl in
     record {

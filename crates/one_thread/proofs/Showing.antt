@@ -12,9 +12,9 @@ use Rattle.sql_base.specs.declared.scripts.Work.{Work}
 use Rattle.sql_base.specs.declared.tables.TableDef.{TableDef}
 use Rattle.one_thread.specs.Answer.{outcome_of, session_shown, sessions_shown, stamp_after, stamp_behind, world_behind}
 use Rattle.one_thread.specs.One.{one_run, run_work, world_after, Aborts, Commits, Ending, Ran, RollsBack, World}
-use Rattle.one_thread.specs.Runs.{IsRun}
-use Rattle.one_thread.specs.Sessions.{next_stamp, HasRun, HaveRun}
-use Rattle.one_thread.specs.Worlds.{world_of, Settled}
+use Rattle.one_thread.specs.Scaffold.Runs.{RunsWork}
+use Rattle.one_thread.specs.Scaffold.Sessions.{next_stamp, HasRun, HaveRun}
+use Rattle.one_thread.specs.Scaffold.Worlds.{world_of, Settled}
 use Rattle.one_thread.specs.declared.cells.Cell.{Cell}
 use Rattle.one_thread.specs.declared.shown.Shown.{Shown}
 use Rattle.one_thread.specs.declared.transactions.Run.{Run}
@@ -49,7 +49,7 @@ abbrev pub shown_as : ℕ → ℕ → Run → Shown
 shown_as session ordinal run = record { session = session; ordinal = ordinal; outcome = run.outcome; given = run.given }
 
 pub one_more : (tables : List TableDef) (works : List Work) (session first : ℕ) (old world new : List (List Cell)) (before shown : List Shown) (stamp i : ℕ) (d : Work) (run : Run) → i < length works → InSession tables works session first old world before shown stamp i
-    → IsRun tables (get_or works i d) stamp world new run → InSession tables works session first old new before (shown ++ shown_as session (i + 1) run ∷ []) (next_stamp stamp run.outcome) (i + 1)
+    → RunsWork tables (get_or works i d) stamp world new run → InSession tables works session first old new before (shown ++ shown_as session (i + 1) run ∷ []) (next_stamp stamp run.outcome) (i + 1)
 one_more tables works session first old world new before shown stamp i d run lt h is =
     let rest = drop (i + 1) works in
     let w : World = world_of tables world in

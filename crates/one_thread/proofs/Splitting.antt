@@ -9,12 +9,12 @@ use Rattle.sql_base.specs.declared.key_ranges.KeyRange.{KeyRange}
 use Rattle.sql_base.specs.declared.tables.TableDef.{TableDef}
 use Rattle.sql_base.specs.declared.values.Value.{Value}
 use Rattle.range_finder.specs.Range.{is_in}
-use Rattle.one_thread.specs.Cells.{now_of, IsKeyed}
+use Rattle.one_thread.specs.Scaffold.Cells.{now_of, IsKeyed}
 use Rattle.sql_base.specs.declared.expressions.Expr.{Expr}
 use Rattle.sql_base.specs.declared.faults.NoMemory.{NoMemory}
 use Rattle.sql_base.specs.declared.outcomes.Abort.{Abort}
-use Rattle.one_thread.specs.Scans.{HasColumns, Reads, ReadsIn, Splits}
-use Rattle.one_thread.specs.Windows.{IsWindow}
+use Rattle.one_thread.specs.Scaffold.Scans.{HasColumns, ScansRows, ReadsIn, Splits}
+use Rattle.one_thread.specs.Scaffold.Windows.{IsWindow}
 use Rattle.one_thread.specs.declared.cells.Cell.{Cell}
 use Rattle.one_thread.proofs.Parts.{all_drop, all_take}
 
@@ -42,6 +42,6 @@ have_columns table columns [] are is = tt
 have_columns table columns (c ∷ cells) are is = (keyed_columns table columns c.key c.row are is.0, have_columns table columns cells are is.1)
 
 pub reads_in : (columns : List ℕ) (predicate : Option Expr) (range : Option KeyRange) (cells : List Cell) (first end : ℕ) → IsWindow range cells first end → (result : Result (Result (List (List ℕ)) Abort) NoMemory)
-    → IfOk result (λ came. Reads columns predicate (take (end - first) (drop first cells)) came) → IfOk result (λ came. ReadsIn columns predicate range cells came)
+    → IfOk result (λ came. ScansRows columns predicate (take (end - first) (drop first cells)) came) → IfOk result (λ came. ReadsIn columns predicate range cells came)
 reads_in columns predicate range cells first end w (Ok came) reads = (take first cells, take (end - first) (drop first cells), drop (end - first) (drop first cells), splits range cells first end w, reads)
 reads_in columns predicate range cells first end w (Err e) reads = tt

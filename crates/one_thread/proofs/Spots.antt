@@ -17,8 +17,8 @@ use Rattle.sql_base.specs.declared.tables.TableDef.{TableDef}
 use Rattle.sql_base.specs.declared.values.Value.{Value}
 use Rattle.sql_base.proofs.KeyOrders.{lt-trans}
 use Rattle.one_thread.specs.One.{duplicate, sooner}
-use Rattle.one_thread.specs.Cells.{before_of, befores, kept, now_of, nows, old_row, replaced, AreCells, IsKeyed}
-use Rattle.one_thread.specs.Inserting.{filled, insert_abort, Finds, Inserted}
+use Rattle.one_thread.specs.Scaffold.Cells.{before_of, befores, kept, now_of, nows, old_row, replaced, AreCells, IsKeyed}
+use Rattle.one_thread.specs.Scaffold.Inserting.{filled, insert_abort, Finds, Inserted}
 use Rattle.one_thread.specs.declared.inserting.Spot.{Spot}
 use Rattle.one_thread.specs.declared.inserting.Spot.TheVariants.{Taken, Empty, New}
 use Rattle.one_thread.specs.declared.cells.Before.{Before}
@@ -27,7 +27,7 @@ use Rattle.one_thread.specs.declared.cells.Cell.{Cell}
 use Rattle.one_thread.proofs.Rising.{keys}
 use Rattle.one_thread.proofs.Parts.{all_above, all_drop, all_take, none_equal, one_equal, parts_at, placed_between, rise_between, rise_drop, rows_have, set_at, AllAbove, AllBelow}
 use Rattle.sql_base.proofs.Orderings.{key_lt-other}
-use Rattle.sql_base.proofs.Lists.{all_both, all_left, all_right}
+use Rattle.sql_base.proofs.ListFacts.{all_both, all_left, all_right}
 
 -- ---- finding the place
 

@@ -1,13 +1,4 @@
 pub mod One
 pub mod Text
 pub mod Answer
-pub mod Values
-pub mod Cells
-pub mod Windows
-pub mod Scans
-pub mod Inserting
-pub mod Statements
-pub mod Worlds
-pub mod Runs
-pub mod Loading
-pub mod Sessions
+pub mod Scaffold

@@ -81,9 +81,9 @@ done_unless (Some abort) before done = record { given = Err abort; records = bef
 done_unless None before done = done
 
 -- the records with one more, at its place in key order
-abbrev pub placed : TableDef → List Value → Records → Records
-placed table row [] = row ∷ []
-placed table row (r ∷ rs) = if key_lt (key_of table row) (key_of table r) then row ∷ r ∷ rs else r ∷ placed table row rs
+abbrev pub row_placed : TableDef → List Value → Records → Records
+row_placed table row [] = row ∷ []
+row_placed table row (r ∷ rs) = if key_lt (key_of table row) (key_of table r) then row ∷ r ∷ rs else r ∷ row_placed table row rs
 
 abbrev pub duplicate : TableDef → List Value → Records → Option Abort
 duplicate table row rows = if list_any (λ r. key_eq (key_of table r) (key_of table row)) rows then Some (Duplicate (key_of table row)) else None
@@ -101,7 +101,7 @@ one_on table (Delete t predicate access) rows =
     (record { given = Ok (Count (count_by (selects table predicate) rows)); records = filter (λ row. not (selects table predicate row)) rows })
 one_on table (Insert t row) rows =
     done_unless (sooner (duplicate table row rows) (option_map (Faulted (key_of table row)) (first_failing table.checks row))) rows
-    (record { given = Ok Silent; records = placed table row rows })
+    (record { given = Ok Silent; records = row_placed table row rows })
 one_on table (LockTable t mode) rows = record { given = Ok Silent; records = rows }
 
 -- ---- SELECT, UPDATE and DELETE as one case: each row has one fate

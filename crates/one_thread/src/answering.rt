@@ -5,9 +5,9 @@ ghost use Rattle.std.specs.List.{AllByRecursion};
 ghost use Rattle.sql_base.specs.Scripts.{IsScript};
 ghost use Rattle.sql_base.specs.Tables.{IsStatement, IsTable};
 ghost use Rattle.one_thread.specs.Answer.{answer_text};
-ghost use Rattle.one_thread.specs.Cells.{nows};
-ghost use Rattle.one_thread.specs.Sessions.{next_stamp, HasRun, HaveRun};
-ghost use Rattle.one_thread.specs.Worlds.{Settled};
+ghost use Rattle.one_thread.specs.Scaffold.Cells.{nows};
+ghost use Rattle.one_thread.specs.Scaffold.Sessions.{next_stamp, HasRun, HaveRun};
+ghost use Rattle.one_thread.specs.Scaffold.Worlds.{Settled};
 
 use crate::loading::load;
 use crate::printing::print_run;

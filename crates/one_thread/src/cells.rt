@@ -1,7 +1,7 @@
 //! The records of a table while a transaction runs: each as it is now, and as it was before the transaction.
 
 ghost use Rattle.std.specs.Prelude.{◌≡◌, map, IfOk};
-ghost use Rattle.one_thread.specs.Cells.{ended, now_of, replaced};
+ghost use Rattle.one_thread.specs.Scaffold.Cells.{ended, now_of, replaced};
 
 use crate::changes::copied;
 use sql_base::{Key, NoMemory, Row};

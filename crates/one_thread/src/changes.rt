@@ -5,7 +5,7 @@ ghost use Rattle.std.specs.List.{list_any};
 ghost use Rattle.sql_base.specs.OnRows.{fault_of, first_failing, check_fault, stored, updated};
 ghost use Rattle.sql_base.specs.Rows.{kinds, padded, width};
 ghost use Rattle.sql_base.specs.Val.{val};
-ghost use Rattle.one_thread.specs.Values.{item_in};
+ghost use Rattle.one_thread.specs.Scaffold.Values.{item_in};
 
 use crate::values::{Item, value};
 use sql_base::{

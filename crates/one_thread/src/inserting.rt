@@ -4,8 +4,8 @@ ghost use Rattle.std.specs.Prelude.{◌≡◌, ◌≤◌, length, map, IfOk, OnO
 ghost use Rattle.sql_base.specs.Keys.{Rise};
 ghost use Rattle.sql_base.specs.Rows.{IsRow};
 ghost use Rattle.sql_base.specs.Tables.{AreColumns};
-ghost use Rattle.one_thread.specs.Cells.{now_of, AreCells};
-ghost use Rattle.one_thread.specs.Inserting.{filled, Finds, Inserts};
+ghost use Rattle.one_thread.specs.Scaffold.Cells.{now_of, AreCells};
+ghost use Rattle.one_thread.specs.Scaffold.Inserting.{filled, Finds, Inserts};
 
 use crate::cells::{Before, Cell};
 use crate::changes::{copied, first_failing};

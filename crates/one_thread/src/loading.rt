@@ -5,7 +5,7 @@ ghost use Rattle.std.specs.List.{AllByRecursion};
 ghost use Rattle.sql_base.specs.Rows.{IsRow};
 ghost use Rattle.sql_base.specs.Scripts.{IsScript};
 ghost use Rattle.sql_base.specs.Tables.{AreColumns};
-ghost use Rattle.one_thread.specs.Loading.{cell_of, Fit, Opens};
+ghost use Rattle.one_thread.specs.Scaffold.Loading.{cell_of, Fit, Opens};
 ghost use Rattle.one_thread.specs.One.{load_rows};
 
 use crate::cells::{Before, Cell};

@@ -3,7 +3,7 @@
 ghost use Rattle.std.specs.Prelude.{◌≡◌, ◌≤◌, length, map, true, false};
 ghost use Rattle.std.specs.List.Sorted.{IsPartitionPoint};
 ghost use Rattle.sql_base.specs.Keys.{key_le, key_lt, Rise};
-ghost use Rattle.one_thread.specs.Windows.{IsWindow};
+ghost use Rattle.one_thread.specs.Scaffold.Windows.{IsWindow};
 
 use crate::cells::Cell;
 use sql_base::KeyRange;

@@ -2,8 +2,8 @@
 
 ghost use Rattle.std.specs.Prelude.{◌≡◌, ◌≤◌, ◌++◌, [], length, if◌then◌else◌, IfOk, OnOk};
 ghost use Rattle.std.specs.List.{AllByRecursion, cons_option};
-ghost use Rattle.one_thread.specs.Scans.{cell_fate, delete_fate, update_fate, Changes, ChangesOne, HasColumns, Reads, ReadsOne};
-ghost use Rattle.one_thread.specs.Values.{truth_of};
+ghost use Rattle.one_thread.specs.Scaffold.Scans.{cell_fate, delete_fate, update_fate, Changes, ChangesOne, HasColumns, ScansRows, ReadsOne};
+ghost use Rattle.one_thread.specs.Scaffold.Values.{truth_of};
 ghost use Rattle.sql_base.specs.Val.{filter_val};
 
 use crate::cells::Cell;
@@ -172,7 +172,7 @@ pub fn read_cells(
     cells: &[Cell],
 ) -> Result<Result<List<Packed>, Abort>, NoMemory>
     requires { AllByRecursion (HasColumns columns.now) cells.now }
-    ensures { IfOk result (λ came. Reads columns.now filter.now cells.now came) }
+    ensures { IfOk result (λ came. ScansRows columns.now filter.now cells.now came) }
 {
     let mut rows = List::new(alloc);
     for cell in cells {

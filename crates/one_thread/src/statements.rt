@@ -4,10 +4,10 @@ ghost use Rattle.std.specs.Prelude.{◌≡◌, ◌≤◌, length, slice_get, IfO
 ghost use Rattle.sql_base.specs.Rows.{chosen, kinds};
 ghost use Rattle.sql_base.specs.Tables.{AreColumns, IsTable, SuitsTable};
 ghost use Rattle.range_finder.specs.Range.{range};
-ghost use Rattle.one_thread.specs.Cells.{now_of, AreCells};
+ghost use Rattle.one_thread.specs.Scaffold.Cells.{now_of, AreCells};
 ghost use Rattle.one_thread.specs.One.{predicate_of};
-ghost use Rattle.one_thread.specs.Scans.{ChangesIn, ReadsIn};
-ghost use Rattle.one_thread.specs.Statements.{Changing, Does, Selects};
+ghost use Rattle.one_thread.specs.Scaffold.Scans.{ChangesIn, ReadsIn};
+ghost use Rattle.one_thread.specs.Scaffold.Statements.{Changing, Does, Selects};
 
 use crate::cells::Cell;
 use crate::inserting::insert_row;

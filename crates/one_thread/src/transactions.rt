@@ -3,8 +3,8 @@
 ghost use Rattle.std.specs.Prelude.{◌≡◌, if◌then◌else◌, IfOk};
 ghost use Rattle.std.specs.List.{AllByRecursion};
 ghost use Rattle.sql_base.specs.Tables.{IsStatement, IsTable};
-ghost use Rattle.one_thread.specs.Runs.{IsRun};
-ghost use Rattle.one_thread.specs.Worlds.{Settled};
+ghost use Rattle.one_thread.specs.Scaffold.Runs.{RunsWork};
+ghost use Rattle.one_thread.specs.Scaffold.Worlds.{Settled};
 
 use crate::worlds::{Records, end_world, run_one};
 use sql_base::{Given, List, NoMemory, Outcome, TableDef, Work};
@@ -38,7 +38,7 @@ pub fn run_work(
     requires tables { AllByRecursion IsTable tables.now }
     requires statements { AllByRecursion (IsStatement tables.now) work.now.statements }
     requires settled { Settled tables.now world.now }
-    ensures { IfOk result (λ run. IsRun tables.now work.now stamp world.old world.new run) }
+    ensures { IfOk result (λ run. RunsWork tables.now work.now stamp world.old world.new run) }
 {
     let mut given = List::new(alloc);
     for statement in work.statements.items() {

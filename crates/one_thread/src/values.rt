@@ -2,7 +2,7 @@
 
 ghost use Rattle.std.specs.Prelude.{◌≡◌, Ok, slice_get, slice_index_or};
 ghost use Rattle.sql_base.specs.Val.{arith, column_item, compared, computed, filter_val, holds, text_cmp, val};
-ghost use Rattle.one_thread.specs.Values.{item_in, number_in, or_overflow, outcome_in, truth_of};
+ghost use Rattle.one_thread.specs.Scaffold.Values.{item_in, number_in, or_overflow, outcome_in, truth_of};
 
 use sql_base::{ArithOp, CompareOp, EvalFault, Expr, Value};
 use std::cmp::Ordering;

@@ -3,9 +3,9 @@
 ghost use Rattle.std.specs.Prelude.{◌≡◌, ◌++◌, length, map, IfOk, OnOk};
 ghost use Rattle.std.specs.List.{AllByRecursion};
 ghost use Rattle.sql_base.specs.Tables.{table_of, IsStatement, IsTable, SuitsTable};
-ghost use Rattle.one_thread.specs.Cells.{ended, now_of, nows, AreCells};
-ghost use Rattle.one_thread.specs.Statements.{Does};
-ghost use Rattle.one_thread.specs.Worlds.{AreAll, Moves};
+ghost use Rattle.one_thread.specs.Scaffold.Cells.{ended, now_of, nows, AreCells};
+ghost use Rattle.one_thread.specs.Scaffold.Statements.{Does};
+ghost use Rattle.one_thread.specs.Scaffold.Worlds.{AreAll, Moves};
 
 use crate::cells::{Cell, end_all};
 use crate::scans::push_some;

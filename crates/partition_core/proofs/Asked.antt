@@ -22,7 +22,7 @@ use Rattle.partition_state.specs.Step.{set_work}
 use Rattle.partition_laws.specs.Keeping.{DoingKeeps}
 use Rattle.partition_laws.specs.Moves.{block_of, first_block}
 use Rattle.value_laws.proofs.Sets.{updates_keep_rows}
-use Rattle.partition_core.specs.Contents.{IsRowAt}
+use Rattle.partition_core.specs.Scaffold.Contents.{IsRowAt}
 
 -- the doing of a block is the one that was asked
 block-doing : (t : TxnName) (access : Access) (range : KeyRange) (filter : Option (Option Expr)) (doing : Option Doing) (block : Block SetWork) → option_map (first_block t access range) (set_work filter doing) ≡ Some block → doing ≡ Some block.work.doing

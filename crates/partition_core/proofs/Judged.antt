@@ -9,8 +9,8 @@ use Rattle.dp_messages.specs.declared.replies.Reply.TheVariants.{AfterEnd}
 use Rattle.partition_state.specs.State.{State, opener_of, floor_of}
 use Rattle.partition_state.specs.Step.{answered, refused, unless_other, unless_prepared, other_live}
 use Rattle.partition_state.specs.declared.lives.Live.{Live}
-use Rattle.partition_core.specs.Contents.{Parts, state_of}
-use Rattle.partition_core.specs.Changes.{tells}
+use Rattle.partition_core.specs.Scaffold.Contents.{Parts, state_of}
+use Rattle.partition_core.specs.Scaffold.Changes.{tells}
 use Rattle.partition_core.specs.declared.changes.Judgement.{Judgement}
 use Rattle.partition_core.proofs.Seats.{ended-seen}
 

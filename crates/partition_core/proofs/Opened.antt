@@ -20,7 +20,7 @@ use Rattle.sync_messages.specs.Openers.{new_seat}
 use Rattle.partition_state.specs.State.{new_cell, opening}
 use Rattle.partition_laws.specs.Keeping.{CellHas}
 use Rattle.partition_laws.proofs.Steps.{Keeps-opening}
-use Rattle.partition_core.specs.Contents.{Parts, IsRowAt, IsSeat, IsServing, kept_of}
+use Rattle.partition_core.specs.Scaffold.Contents.{Parts, IsRowAt, IsSeat, IsServing, kept_of}
 use Rattle.partition_core.specs.Kept.{opened_with}
 use Rattle.sql_base.proofs.Orderings.{less-differs}
 

@@ -18,7 +18,7 @@ use Rattle.sql_base.specs.declared.lock_names.Mode.{Mode}
 use Rattle.sql_base.specs.declared.lock_names.Mode.TheVariants.{X}
 use Rattle.sql_base.specs.declared.lock_names.TxnName.{TxnName}
 use Rattle.sql_base.specs.declared.values.Value.{Value}
-use Rattle.key_sequenced.specs.Cells.{find_cell, settled}
+use Rattle.key_sequenced.specs.Cells.{find_cell, cells_settled}
 use Rattle.subset_blocks.specs.Blocks.{find_block, most_blocks}
 use Rattle.subset_blocks.specs.declared.Block.{Block}
 use Rattle.subset_blocks.specs.declared.Numbered.{Numbered}
@@ -32,7 +32,7 @@ use Rattle.dp_messages.specs.declared.replies.Reply.TheVariants.{Done, AfterEnd,
 use Rattle.dp_messages.specs.declared.requests.Ask.{Ask}
 use Rattle.dp_messages.specs.declared.requests.Ask.TheVariants.{BeginRead, BeginUpdate, BeginDelete, Continue, ReadKey, Insert, LockGranule, Prepare, EndCommit, EndUndo}
 use Rattle.partition_state.specs.State.{State, Opener, new_opener, opener_of, with_opener, with_live, is_live, floor_of}
-use Rattle.partition_state.specs.Step.{Answered, refused, set_work, is_key_here, is_shaped, are_columns_here, may_change, kept_key, as_row, against_granule, begins, other_live, with_granule, after_first, first_quantum, begin_with, begin, after_next, goes_on, read_key, insert_checked, insert_beside, insert_against, insert_row, lock_against, lock_granule, prepare_from, prepare, ended, commit_above, end_commit, by_kind, is_closing, unless_prepared, unless_other, answered}
+use Rattle.partition_state.specs.Step.{Answered, refused, set_work, is_key_here, is_shaped, are_columns_here, may_change, kept_key, as_row, against_granule, begins, other_live, with_granule, after_first, first_quantum, begin_with, begin, after_next, goes_on, read_key, insert_checked, insert_beside, insert_against, insert_row, lock_against, lock_granule, prepare_from, prepare, transaction_ended, commit_above, end_commit, by_kind, is_closing, unless_prepared, unless_other, answered}
 use Rattle.predicate_codes.specs.Decoding.{filter_of}
 use Rattle.predicate_codes.specs.SetLists.{sets_of}
 use Rattle.partition_state.specs.declared.lives.Live.{Live}
@@ -164,8 +164,8 @@ counts-prepare p t =
 counts-commit_above : (p : State) (t : TxnName) (stamp : ℕ) (floor : Option ℕ) → Counts p (commit_above p t stamp floor)
 counts-commit_above p t stamp None = record { same = refl }
 counts-commit_above p t stamp (Some floor) =
-    let a : Answered = record { reply = Done; state = record (ended p t (settled t p.cells)) { high = max p.high stamp } } in
-    let ends : Counts p a = record { same = length-set p.openers (t.session - 1) (record (opener_of p t.session) { ended = t.ordinal }) } in
+    let a : Answered = record { reply = Done; state = record (transaction_ended p t (cells_settled t p.cells)) { high = max p.high stamp } } in
+    let ends : Counts p a = record { same = length-set p.openers (t.session - 1) (record (opener_of p t.session) { transaction_ended = t.ordinal }) } in
     counts-either p (nat_le stamp floor) (refused p (StampLow floor)) a (counts-refused p (StampLow floor)) ends
 
 -- EndCommit

@@ -8,9 +8,9 @@ use Rattle.sync_messages.specs.Openers.{kept_as, new_seat, starved_at}
 use Rattle.sync_messages.specs.declared.Seat.{Seat}
 use Rattle.partition_state.specs.State.{Opener, new_opener}
 use Rattle.partition_state.specs.declared.entries.Entry.{Entry}
-use Rattle.partition_core.specs.Contents.{IsPlace, IsSeat, entry_at, mark_of, opener_by, openers_in}
+use Rattle.partition_core.specs.Scaffold.Contents.{IsPlace, IsSeat, entry_at, mark_of, opener_by, openers_in}
 use Rattle.partition_core.specs.Kept.{marked}
-use Rattle.sql_base.proofs.Lists.{slice_get-last}
+use Rattle.sql_base.proofs.ListFacts.{slice_get-last}
 
 slice_get-before : {X : Type 0} (xs : List X) (x : X) (i : ℕ) → i < length xs → slice_get (xs ++ x ∷ []) i ≡ slice_get xs i
 slice_get-before [] x i lt = absurd (omega arith)

@@ -6,7 +6,7 @@ use Rattle.sql_base.specs.Locks.{released, same_txn}
 use Rattle.sql_base.specs.Scripts.{Lies}
 use Rattle.sql_base.specs.declared.lock_names.TxnName.{TxnName}
 use Rattle.sql_base.specs.declared.tables.TableDef.{TableDef}
-use Rattle.key_sequenced.specs.Cells.{restored, settled}
+use Rattle.key_sequenced.specs.Cells.{restored, cells_settled}
 use Rattle.key_sequenced.specs.declared.Cell.{Cell}
 use Rattle.subset_blocks.specs.Blocks.{advanced, closed_of}
 use Rattle.subset_blocks.specs.declared.Numbered.{Numbered}
@@ -14,7 +14,7 @@ use Rattle.subset_blocks.proofs.BlockLists.{gone_on-work}
 use Rattle.sync_messages.specs.Openers.{kept_as, new_seat, seat_of}
 use Rattle.sync_messages.specs.declared.Seat.{Seat}
 use Rattle.quantum_core.specs.declared.works.SetWork.{SetWork}
-use Rattle.quantum_runner.specs.Works.{IsWork}
+use Rattle.quantum_runner.specs.Scaffold.Works.{IsWork}
 use Rattle.dp_messages.specs.declared.requests.Request.{Request}
 use Rattle.partition_state.specs.State.{State, Opener, opener_of}
 use Rattle.partition_state.specs.Step.{Answered, Stepped, step, answered, noted}
@@ -25,15 +25,15 @@ use Rattle.partition_laws.proofs.RowLaws.{RowsKeep-step}
 use Rattle.partition_laws.proofs.Steps.{Keeps-step}
 use Rattle.value_laws.proofs.Unpacked.{unpacked_are_rows}
 use Rattle.partition_core.specs.Kept.{Kept, IsReplayed, served, entry_of}
-use Rattle.partition_core.specs.Contents.{Parts, IsFormed, IsRowAt, IsSeat, IsServing, entry_at, kept_of, mark_of, opener_by, state_of}
-use Rattle.partition_core.specs.Changes.{after, tells, changed, noted_parts, IsFitting}
+use Rattle.partition_core.specs.Scaffold.Contents.{Parts, IsFormed, IsRowAt, IsSeat, IsServing, entry_at, kept_of, mark_of, opener_by, state_of}
+use Rattle.partition_core.specs.Scaffold.Changes.{after, tells, changed, noted_parts, IsFitting}
 use Rattle.partition_core.specs.declared.changes.Change.{Change}
 use Rattle.partition_core.specs.declared.changes.Change.TheVariants.{Stays, Begins, Advances, Closes, Inserts, Prepares, Commits, Undoes}
 use Rattle.partition_core.specs.declared.changes.Judgement.{Judgement}
 use Rattle.partition_core.proofs.Asked.{doing-asked}
 use Rattle.partition_core.proofs.Replays.{IsReplayed-served}
 use Rattle.partition_core.proofs.Seats.{length-slice_set, openers-ended, openers-noted, opener-seen, seat-is, seats-noted}
-use Rattle.sql_base.proofs.Lists.{all-filter, all-push, map_set}
+use Rattle.sql_base.proofs.ListFacts.{all-filter, all-push, map_set}
 
 -- the state at an end, by its cells and openers
 abbrev ended_with : Parts → TxnName → List Cell → ℕ → List Opener → State
@@ -48,7 +48,7 @@ state-changed q t (Advances plans subset last) same = refl
 state-changed q t (Closes plans subset) same = refl
 state-changed q t (Inserts key row lock) same = refl
 state-changed q t Prepares same = refl
-state-changed q t (Commits stamp) same = ap (ended_with q t (settled t q.cells) (max q.high stamp)) (openers-ended q.history q.seats q.ended (t.session - 1) t.ordinal same)
+state-changed q t (Commits stamp) same = ap (ended_with q t (cells_settled t q.cells) (max q.high stamp)) (openers-ended q.history q.seats q.ended (t.session - 1) t.ordinal same)
 state-changed q t Undoes same = ap (ended_with q t (restored t q.cells) q.high) (openers-ended q.history q.seats q.ended (t.session - 1) t.ordinal same)
 
 state-noted : (q : Parts) (e : Entry) → AllByRecursion (IsSeat q.history) q.seats → length q.seats ≡ 8 → length q.ended ≡ 8 → Lies 1 8 e.opener → state_of (noted_parts q e) ≡ noted (state_of q) e.opener e.sync e.reply

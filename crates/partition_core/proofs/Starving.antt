@@ -10,9 +10,9 @@ use Rattle.partition_state.specs.State.{State, Opener, opener_of}
 use Rattle.partition_state.specs.declared.entries.Entry.{Entry}
 use Rattle.partition_laws.specs.Keeping.{Keeps, RowsKeep}
 use Rattle.partition_core.specs.Kept.{AreMarked, Kept, Serves, marked, opener_in, served, starved}
-use Rattle.partition_core.specs.Contents.{Parts, IsPlace, IsRowAt, IsServing, entry_at, kept_of, mark_of, opener_by, state_of}
+use Rattle.partition_core.specs.Scaffold.Contents.{Parts, IsPlace, IsRowAt, IsServing, entry_at, kept_of, mark_of, opener_by, state_of}
 use Rattle.partition_core.proofs.Seats.{IsSeen, length-slice_set, mark-seen, opener-seen, openers-starved, seat-is, seat-seen, seats-starved}
-use Rattle.sql_base.proofs.Lists.{map_set}
+use Rattle.sql_base.proofs.ListFacts.{map_set}
 
 -- an opener is as its seat says
 pub seen : (q : Parts) (opener : ℕ) → IsServing q → IsSeen (seat_of q.seats opener) (entry_at q.history (seat_of q.seats opener).kept) (opener_in (kept_of q) opener)

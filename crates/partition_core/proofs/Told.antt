@@ -26,8 +26,8 @@ use Rattle.quantum_core.specs.Quantum.{Handled, quantum}
 use Rattle.quantum_core.specs.declared.replies.QuantumReply.{QuantumReply}
 use Rattle.quantum_core.specs.declared.replies.QuantumReply.TheVariants as answers
 use Rattle.quantum_core.specs.declared.works.SetWork.{SetWork}
-use Rattle.quantum_runner.specs.Plans.{IsWalk, granted_by, left_with, rewritten_by}
-use Rattle.quantum_runner.specs.Works.{IsWork}
+use Rattle.quantum_runner.specs.Scaffold.Plans.{IsWalk, granted_by, left_with, rewritten_by}
+use Rattle.quantum_runner.specs.Scaffold.Works.{IsWork}
 use Rattle.quantum_runner.specs.declared.planned.Planned.{Planned}
 use Rattle.quantum_runner.specs.declared.planned.Walk.{Walk}
 use Rattle.quantum_runner.proofs.Changing.{quantum-left}
@@ -35,9 +35,9 @@ use Rattle.dp_messages.specs.declared.replies.Reply.{Reply}
 use Rattle.dp_messages.specs.declared.replies.Reply.TheVariants.{BadCode, BadShape, DuplicateKey, Locked, TooManySubsets, WrongKey}
 use Rattle.partition_state.specs.State.{State, with_live}
 use Rattle.partition_state.specs.Step.{Answered, after_first, after_next, against_granule, as_row, begin_with, begins, first_quantum, goes_on, insert_against, insert_beside, insert_checked, insert_row, is_key_here, kept_key, lock_against, lock_granule, read_key, refused, with_granule, with_handled}
-use Rattle.partition_core.specs.Changes.{IsFitting, after, granule_wanted, locks_with, tells}
-use Rattle.partition_core.specs.Contents.{Parts}
-use Rattle.partition_core.specs.Firsts.{first_by, first_change, first_reply, key_by, key_change, key_reply, next_by, next_change, next_reply}
+use Rattle.partition_core.specs.Scaffold.Changes.{IsFitting, after, granule_wanted, locks_with, tells}
+use Rattle.partition_core.specs.Scaffold.Contents.{Parts}
+use Rattle.partition_core.specs.Scaffold.Firsts.{first_by, first_change, first_reply, key_by, key_change, key_reply, next_by, next_change, next_reply}
 use Rattle.partition_core.specs.declared.changes.Change.{Change}
 use Rattle.partition_core.specs.declared.changes.Change.TheVariants.{Begins}
 use Rattle.partition_core.specs.declared.changes.Judgement.{Judgement}

@@ -1,4 +1,2 @@
 pub mod Kept
-pub mod Contents
-pub mod Changes
-pub mod Firsts
+pub mod Scaffold

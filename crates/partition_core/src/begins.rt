@@ -2,14 +2,14 @@
 ghost use Rattle.std.specs.Prelude.{◌≡◌, ◌<◌, [], length, IfOk, IfSome, Some, None, option_copied, option_map};
 ghost use Rattle.sql_base.specs.declared.key_ranges.Start.TheVariants.{At, After};
 ghost use Rattle.quantum_core.specs.declared.works.Doing.TheVariants as doing;
-ghost use Rattle.quantum_runner.specs.Works.{IsWork};
+ghost use Rattle.quantum_runner.specs.Scaffold.Works.{IsWork};
 ghost use Rattle.predicate_codes.specs.Decoding.{filter_of};
 ghost use Rattle.predicate_codes.specs.SetLists.{sets_of};
 ghost use Rattle.subset_blocks.specs.Blocks.{free_number, most_blocks};
 ghost use Rattle.partition_state.specs.Step.{against_granule, are_columns_here, begin, begin_with, may_change, mode_of, set_work};
-ghost use Rattle.partition_core.specs.Contents.{state_of, parts_of, IsServing};
-ghost use Rattle.partition_core.specs.Changes.{tells, IsFitting, granule_wanted};
-ghost use Rattle.partition_core.specs.Firsts.{IsFirst, first_change, first_reply};
+ghost use Rattle.partition_core.specs.Scaffold.Contents.{state_of, parts_of, IsServing};
+ghost use Rattle.partition_core.specs.Scaffold.Changes.{tells, IsFitting, granule_wanted};
+ghost use Rattle.partition_core.specs.Scaffold.Firsts.{IsFirst, first_change, first_reply};
 
 use crate::changes::{Change, Judgement, refusal};
 use crate::codes::{read_update, read_work};

@@ -2,8 +2,8 @@
 ghost use Rattle.std.specs.Prelude.{◌≡◌, ◌<◌, length, slice_set, vec_len, vec_capacity};
 ghost use Rattle.sql_base.specs.Scripts.{Lies};
 ghost use Rattle.subset_blocks.specs.Blocks.{NumbersDiffer};
-ghost use Rattle.partition_core.specs.Contents.{parts_of, HasRoom};
-ghost use Rattle.partition_core.specs.Changes.{blocks_with, changed, ended_parts, locks_with, plans_in};
+ghost use Rattle.partition_core.specs.Scaffold.Contents.{parts_of, HasRoom};
+ghost use Rattle.partition_core.specs.Scaffold.Changes.{blocks_with, changed, ended_parts, locks_with, plans_in};
 
 use crate::contents::Contents;
 use crate::lives::{dismiss, enlist, set_floor};

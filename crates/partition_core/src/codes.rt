@@ -5,7 +5,7 @@ ghost use Rattle.constraint_checks.specs.Judging.{tree_of};
 ghost use Rattle.predicate_codes.specs.Decoding.{filter_of};
 ghost use Rattle.predicate_codes.specs.SetLists.{sets_of};
 ghost use Rattle.quantum_core.specs.declared.works.Doing.TheVariants as doing;
-ghost use Rattle.quantum_runner.specs.Works.{IsDoing, IsWork, doing_in};
+ghost use Rattle.quantum_runner.specs.Scaffold.Works.{IsDoing, IsWork, doing_in};
 ghost use Rattle.partition_state.specs.Step.{set_work};
 
 use predicate_runner::{CodeFault, ExprKind, Verified, verify};

@@ -3,9 +3,9 @@ ghost use Rattle.std.specs.Prelude.{◌≡◌, IfOk};
 ghost use Rattle.sql_base.specs.Keys.{key_eq};
 ghost use Rattle.subset_blocks.specs.Blocks.{find_block};
 ghost use Rattle.partition_state.specs.Step.{goes_on, kept_key};
-ghost use Rattle.partition_core.specs.Changes.{tells, IsFitting};
-ghost use Rattle.partition_core.specs.Contents.{state_of, parts_of, IsServing};
-ghost use Rattle.partition_core.specs.Firsts.{next_change, next_reply};
+ghost use Rattle.partition_core.specs.Scaffold.Changes.{tells, IsFitting};
+ghost use Rattle.partition_core.specs.Scaffold.Contents.{state_of, parts_of, IsServing};
+ghost use Rattle.partition_core.specs.Scaffold.Firsts.{next_change, next_reply};
 
 use crate::changes::{Change, Judgement, refusal};
 use crate::contents::Contents;

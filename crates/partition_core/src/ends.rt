@@ -1,7 +1,7 @@
 //! Prepare, and the two ends.
 ghost use Rattle.std.specs.Prelude.{◌≡◌};
-ghost use Rattle.partition_core.specs.Contents.{state_of, parts_of};
-ghost use Rattle.partition_core.specs.Changes.{tells, IsFitting};
+ghost use Rattle.partition_core.specs.Scaffold.Contents.{state_of, parts_of};
+ghost use Rattle.partition_core.specs.Scaffold.Changes.{tells, IsFitting};
 ghost use Rattle.partition_state.specs.Step.{prepare, end_commit, end_undo};
 
 use crate::changes::{Change, Judgement, refusal};

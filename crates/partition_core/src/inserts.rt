@@ -4,8 +4,8 @@ ghost use Rattle.sql_base.specs.Locks.{first_conflict};
 ghost use Rattle.sql_base.specs.Rows.{IsRow, kinds, unpacked};
 ghost use Rattle.key_sequenced.specs.Cells.{find_cell};
 ghost use Rattle.partition_state.specs.Step.{insert_row, lock_granule};
-ghost use Rattle.partition_core.specs.Changes.{tells, IsFitting};
-ghost use Rattle.partition_core.specs.Contents.{state_of, parts_of, IsServing};
+ghost use Rattle.partition_core.specs.Scaffold.Changes.{tells, IsFitting};
+ghost use Rattle.partition_core.specs.Scaffold.Contents.{state_of, parts_of, IsServing};
 
 use crate::begins::{begun, locked};
 use crate::changes::{Change, Judgement, refusal};

@@ -1,8 +1,8 @@
 //! What a request comes to, by the checks before the kinds and then by kind.
 ghost use Rattle.std.specs.Prelude.{◌≡◌, ◌<◌, ◌≤◌, IfOk, slice_index_or};
 ghost use Rattle.sql_base.specs.Scripts.{Lies};
-ghost use Rattle.partition_core.specs.Contents.{state_of, parts_of, IsServing};
-ghost use Rattle.partition_core.specs.Changes.{tells, IsFitting};
+ghost use Rattle.partition_core.specs.Scaffold.Contents.{state_of, parts_of, IsServing};
+ghost use Rattle.partition_core.specs.Scaffold.Changes.{tells, IsFitting};
 ghost use Rattle.partition_state.specs.Step.{answered, by_kind, is_closing, unless_prepared};
 
 use crate::changes::{Judgement, refusal};

@@ -4,10 +4,10 @@ ghost use Rattle.sql_base.specs.declared.faults.Cause.{Cause};
 ghost use Rattle.quantum_core.specs.declared.works.Doing.TheVariants as doing;
 ghost use Rattle.predicate_codes.specs.Decoding.{filter_of};
 ghost use Rattle.partition_state.specs.Step.{are_columns_here, as_row, is_key_here, read_key, set_work};
-ghost use Rattle.quantum_runner.specs.Works.{IsWork};
-ghost use Rattle.partition_core.specs.Changes.{tells, IsFitting, granule_wanted};
-ghost use Rattle.partition_core.specs.Contents.{state_of, parts_of, IsServing};
-ghost use Rattle.partition_core.specs.Firsts.{key_change, key_reply};
+ghost use Rattle.quantum_runner.specs.Scaffold.Works.{IsWork};
+ghost use Rattle.partition_core.specs.Scaffold.Changes.{tells, IsFitting, granule_wanted};
+ghost use Rattle.partition_core.specs.Scaffold.Contents.{state_of, parts_of, IsServing};
+ghost use Rattle.partition_core.specs.Scaffold.Firsts.{key_change, key_reply};
 
 use crate::begins::{First, begun, copy_of, first_block, granule_lock};
 use crate::changes::{Change, Judgement, refusal};

@@ -2,8 +2,8 @@
 ghost use Rattle.std.specs.Prelude.{◌≡◌, ◌<◌, ◌≤◌, ◌++◌, ◌∷◌, [], length, IfOk, OnOk, OnErr, vec_len, vec_capacity};
 ghost use Rattle.sql_base.specs.Scripts.{Lies};
 ghost use Rattle.sync_messages.specs.Openers.{IsArrival, seat_of};
-ghost use Rattle.partition_core.specs.Contents.{parts_of, kept_of, IsServing, HasRoom};
-ghost use Rattle.partition_core.specs.Changes.{noted_parts};
+ghost use Rattle.partition_core.specs.Scaffold.Contents.{parts_of, kept_of, IsServing, HasRoom};
+ghost use Rattle.partition_core.specs.Scaffold.Changes.{noted_parts};
 ghost use Rattle.partition_core.specs.Kept.{served};
 
 use crate::changes::{Judgement, count_plans};

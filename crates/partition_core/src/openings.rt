@@ -5,7 +5,7 @@ ghost use Rattle.sql_base.specs.Scripts.{AreLimits};
 ghost use Rattle.sql_base.specs.Tables.{IsTable};
 ghost use Rattle.key_sequenced.specs.Cells.{AreCells};
 ghost use Rattle.partition_state.specs.State.{new_cell, opening};
-ghost use Rattle.partition_core.specs.Contents.{kept_of, parts_of, IsServing};
+ghost use Rattle.partition_core.specs.Scaffold.Contents.{kept_of, parts_of, IsServing};
 ghost use Rattle.partition_core.specs.Kept.{opened_with};
 
 use crate::contents::Contents;

@@ -55,7 +55,7 @@ impl Model for Partition {
 
     ghost coded = { Prim.hlevel (codes, expr.the_row.coded) };
 
-    ghost use Rattle.partition_core.specs.Contents.{kept_of, parts_of, IsServing};
+    ghost use Rattle.partition_core.specs.Scaffold.Contents.{kept_of, parts_of, IsServing};
 
     ghost view = { λ p. kept_of (parts_of p.contents) };
 

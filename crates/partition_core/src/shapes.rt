@@ -4,7 +4,7 @@ ghost use Rattle.std.specs.List.{list_all, starts_with};
 ghost use Rattle.sql_base.specs.Keys.{key_le};
 ghost use Rattle.sql_base.specs.Rows.{key_width};
 ghost use Rattle.sql_base.specs.Tables.{all_differ};
-ghost use Rattle.partition_core.specs.Contents.{state_of, parts_of, IsFormed};
+ghost use Rattle.partition_core.specs.Scaffold.Contents.{state_of, parts_of, IsFormed};
 ghost use Rattle.partition_state.specs.Step.{is_key_here, is_shaped, are_columns_here};
 
 use crate::contents::Contents;

@@ -22,7 +22,7 @@ use Rattle.sql_base.specs.declared.values.Value.{Value}
 use Rattle.predicate_codes.specs.Decoding.{filter_of}
 use Rattle.predicate_codes.specs.SetLists.{sets_of}
 use Rattle.partition_map.specs.Map.{part_of}
-use Rattle.key_sequenced.specs.Cells.{find_cell, inserted, restored, settled}
+use Rattle.key_sequenced.specs.Cells.{find_cell, inserted, restored, cells_settled}
 use Rattle.key_sequenced.specs.declared.Cell.{Cell}
 use Rattle.subset_blocks.specs.Blocks.{most_blocks, free_number, find_block, opened, advanced, closed, closed_of}
 use Rattle.subset_blocks.specs.declared.Block.{Block}
@@ -197,24 +197,24 @@ prepare_from p t None = record { reply = Floor p.high; state = record p { lives 
 abbrev pub prepare : State → TxnName → Answered
 prepare p t = if is_live p t then prepare_from p t (floor_of p t) else refused p NotKnown
 
--- End: locks and blocks of the transaction go, and its ordinal is the last ended
-abbrev pub ended : State → TxnName → List Cell → State
-ended p t cells =
+-- End: locks and blocks of the transaction go, and its ordinal is the last transaction_ended
+abbrev pub transaction_ended : State → TxnName → List Cell → State
+transaction_ended p t cells =
     let q = record p { cells = cells; locks = released t p.locks; blocks = closed_of t p.blocks; lives = filter (λ l. not (same_txn l.name t)) p.lives } in
-    with_opener q t.session (record (opener_of p t.session) { ended = t.ordinal })
+    with_opener q t.session (record (opener_of p t.session) { transaction_ended = t.ordinal })
 
 abbrev pub commit_above : State → TxnName → ℕ → Option ℕ → Answered
 commit_above p t stamp None = refused p NotPrepared
 commit_above p t stamp (Some floor) =
     if nat_le stamp floor
     then refused p (StampLow floor)
-    else record { reply = Done; state = record (ended p t (settled t p.cells)) { high = max p.high stamp } }
+    else record { reply = Done; state = record (transaction_ended p t (cells_settled t p.cells)) { high = max p.high stamp } }
 
 abbrev pub end_commit : State → TxnName → ℕ → Answered
 end_commit p t stamp = if is_live p t then commit_above p t stamp (floor_of p t) else refused p NotKnown
 
 abbrev pub end_undo : State → TxnName → Answered
-end_undo p t = record { reply = Done; state = ended p t (restored t p.cells) }
+end_undo p t = record { reply = Done; state = transaction_ended p t (restored t p.cells) }
 
 -- by kind
 abbrev pub by_kind : State → TxnName → Ask → Answered
@@ -240,7 +240,7 @@ is_closing ask = false
 abbrev pub other_live : State → TxnName → Option Live
 other_live p t = find (λ l. (l.name.session == t.session) && not (l.name.ordinal == t.ordinal)) p.lives
 
--- the checks before the kinds: an attempt that has ended, another that is live, one that has prepared
+-- the checks before the kinds: an attempt that has transaction_ended, another that is live, one that has prepared
 abbrev pub unless_prepared : State → TxnName → Ask → Option ℕ → Answered
 unless_prepared p t ask None = by_kind p t ask
 unless_prepared p t ask (Some floor) = if is_closing ask then by_kind p t ask else refused p (AfterPrepare floor)
@@ -251,8 +251,8 @@ unless_other p t ask None = unless_prepared p t ask (floor_of p t)
 
 abbrev pub answered : State → TxnName → Ask → Answered
 answered p t ask =
-    let ended = (opener_of p t.session).ended in
-    if nat_le t.ordinal ended then refused p (AfterEnd ended) else unless_other p t ask (other_live p t)
+    let transaction_ended = (opener_of p t.session).ended in
+    if nat_le t.ordinal transaction_ended then refused p (AfterEnd transaction_ended) else unless_other p t ask (other_live p t)
 
 -- the partition after a request, and the reply where its sync was new
 pub record Stepped : Type 0 where

@@ -9,7 +9,7 @@ use Rattle.partition_state.specs.State.{State, opening}
 use Rattle.one_thread.specs.One.{load_rows}
 use Rattle.run_record.specs.Openings.{openings, rows_in_part}
 use Rattle.serial_laws.proofs.Opened.{opened-as}
-use Rattle.sql_base.proofs.Lists.{all_at}
+use Rattle.sql_base.proofs.ListFacts.{all_at}
 
 -- a partition of the script is one of its table, by its number among the table's
 pub opens-here : (script : Script) (place j part : ℕ) (table : TableDef) (p : State) → slice_get script.tables place ≡ Some table → j < length table.firsts + 1

@@ -29,7 +29,7 @@ use Rattle.partition_state.specs.Step.{are_columns_here, is_key_here, is_shaped,
 use Rattle.session_grammar.specs.Follows.{asker}
 use Rattle.session_grammar.specs.declared.plans.Sent.{Sent}
 use Rattle.session_grammar.specs.declared.plans.Plan.TheVariants.{Singles, Subsets}
-use Rattle.session_grammar.specs.Plans.{all_columns, begins, begins_in, filter_code, first_part, plan_of, plan_on, select_plan}
+use Rattle.session_grammar.specs.Plans.{all_columns, begin_pieces, begins_in, filter_code, first_part, plan_of, plan_on, select_plan}
 use Rattle.run_record.specs.Openings.{openings}
 use Rattle.run_record.specs.Tiles.{sents_of}
 use Rattle.ranges_laws.specs.Bytes.{IsKey}
@@ -37,7 +37,7 @@ use Rattle.ranges_laws.specs.Pieces.{IsPiece}
 use Rattle.ranges_laws.proofs.Parts.{part_within}
 use Rattle.ranges_laws.proofs.Pieces.{cut-is_pieces}
 use Rattle.ranges_laws.proofs.Ranges.{keys_are_keys, ranges_are_bounds, ranges_begin}
-use Rattle.plans_laws.specs.Fits.{CarriesFilter, CarriesSets, Fits, PlansFit}
+use Rattle.plans_laws.specs.Scaffold.Fits.{CarriesFilter, CarriesSets, Fits, PlansFit}
 use Rattle.plans_laws.proofs.Opened.{opens-here, table_is}
 use Rattle.serial_laws.proofs.Rooms.{packed-back}
 
@@ -99,7 +99,7 @@ module _ (script : Script) (is : IsScript script) (session part : ℕ) (p : Stat
 
   begins-fit : (found : KeyRange) (predicate : Option Expr) → range table predicate ≡ Some found → (begin : List ℕ → KeyRange → Ask)
       → (p.table ≡ table → (k : KeyRange) → is_shaped p k (common_prefix found.low found.high) ≡ true → Fits p (begin (common_prefix found.low found.high) k))
-      → AllByRecursion (FitsThere p part) (begins (asker script session) table place found begin)
+      → AllByRecursion (FitsThere p part) (begin_pieces (asker script session) table place found begin)
   begins-fit found predicate e begin fit =
       pieces-fit found begin fit (cut table found) (cut-is_pieces table found (table_is script place table is at).firsts (ranges_are_bounds table predicate found e).0)
 
@@ -126,7 +126,7 @@ module _ (script : Script) (is : IsScript script) (session part : ℕ) (p : Stat
 
       by_one : (b : Bool) → AllByRecursion (FitsThere p part) (sents_of (if b
           then Singles (record { part = first_part (asker script session) place + part_of table found.low; ask = ask.ReadKey access found.low (filter_code predicate) columns } ∷ [])
-          else Subsets (begins (asker script session) table place found (λ granule piece. ask.BeginRead access granule piece (filter_code predicate) columns))))
+          else Subsets (begin_pieces (asker script session) table place found (λ granule piece. ask.BeginRead access granule piece (filter_code predicate) columns))))
       by_one true = (λ f. one f, tt)
       by_one false = begins-fit found predicate e (λ granule piece. ask.BeginRead access granule piece (filter_code predicate) columns) read
 

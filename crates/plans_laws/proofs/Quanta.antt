@@ -26,7 +26,7 @@ use Rattle.sql_base.specs.declared.tables.TableDef.{TableDef}
 use Rattle.sql_base.specs.declared.values.Value.{Value}
 use Rattle.key_sequenced.specs.declared.Cell.{Cell}
 use Rattle.subset_blocks.specs.declared.Block.{Block}
-use Rattle.quantum_core.specs.Quantum.{answer, changes, greatest, last_key, may_handle, quantum, refusal, rows_of, stopped, visits}
+use Rattle.quantum_core.specs.Quantum.{answer, is_change, greatest, last_key, may_handle, quantum, refusal, rows_of, stopped, visits}
 use Rattle.quantum_core.specs.Verdicts.{Judged, barrier, candidates, is_candidate, judged, on_met, on_new_row, on_predicate, on_row, if_kept, unless_blocked, verdict}
 use Rattle.quantum_core.specs.declared.replies.QuantumReply.{QuantumReply}
 use Rattle.quantum_core.specs.declared.replies.QuantumReply.TheVariants as answers
@@ -36,9 +36,9 @@ use Rattle.quantum_core.specs.declared.verdicts.Verdict.TheVariants.{Blocked, Fa
 use Rattle.quantum_core.specs.declared.works.Doing.{Doing}
 use Rattle.quantum_core.specs.declared.works.Doing.TheVariants.{Read, Update, Delete}
 use Rattle.quantum_core.specs.declared.works.SetWork.{SetWork}
-use Rattle.dp_messages.specs.Spelling.{AreRows, HasFour, IsFault, IsLock, IsLong, IsShort}
+use Rattle.dp_messages.specs.Spelling.{AreRowBytes, HasFour, IsFault, IsLock, IsLong, IsShort}
 use Rattle.partition_laws.proofs.Lists.{all-map, all-passing, find-some}
-use Rattle.sql_base.proofs.Lists.{all-take}
+use Rattle.sql_base.proofs.ListFacts.{all-take}
 
 -- a lock that stands
 pub conflict-spelled : (locks : List Lock) (t : TxnName) (prefix : List ℕ) (mode : Mode) (lock : Lock) → AllByRecursion IsLock locks → first_conflict locks t prefix mode ≡ Some lock → IsLock lock
@@ -145,7 +145,7 @@ greatest-passes test (suc n) P none f =
     cond_both (test (suc n)) (suc n) (greatest test n) P (λ passes. f (suc n) (omega arith) passes) (λ _. greatest-passes test n P none (λ m le passes. f m (omega (arith, le)) passes))
 
 record IsHandled (js : List Judged) : Type 0 where
-  rows : AreRows (rows_of js)
+  rows : AreRowBytes (rows_of js)
   few : length js ≤ 1000
 
 handled-spelled : (limits : Limits) (js : List Judged) → AreLimits limits → IsHandled (take (visits limits js) js)
@@ -160,8 +160,8 @@ handled-spelled limits js are =
 
 -- a reply that can be spelled, whatever the subset's number
 abbrev pub IsQuantumReply : QuantumReply → Type 0
-IsQuantumReply (answers.Ended rows changed) = AreRows rows × HasFour changed
-IsQuantumReply (answers.Redrive last cause rows changed) = IsShort last × AreRows rows × HasFour changed
+IsQuantumReply (answers.Ended rows changed) = AreRowBytes rows × HasFour changed
+IsQuantumReply (answers.Redrive last cause rows changed) = IsShort last × AreRowBytes rows × HasFour changed
 IsQuantumReply (answers.Locked lock) = IsLock lock
 IsQuantumReply (answers.Failed key f) = IsShort key × IsFault f
 
@@ -176,8 +176,8 @@ refusal-spelled key (Faulty f) short h = (short, h)
 refusal-spelled key PassedOver short h = (short, tt)
 refusal-spelled key (Selected effect) short h = (short, tt)
 
-changed-few : (handled : List Judged) → length handled ≤ 1000 → HasFour (count_by (λ (j : Judged). changes j.verdict) handled)
-changed-few handled few = omega (arith, count_by-le-length (λ (j : Judged). changes j.verdict) handled, few)
+changed-few : (handled : List Judged) → length handled ≤ 1000 → HasFour (count_by (λ (j : Judged). is_change j.verdict) handled)
+changed-few handled few = omega (arith, count_by-le-length (λ (j : Judged). is_change j.verdict) handled, few)
 
 stopped-spelled : (limits : Limits) (handled : List Judged) (next : Judged) (o : Option (List ℕ)) → last_key handled ≡ o → IsHandled handled → AllByRecursion IsJudged handled → IsJudged next
     → IsQuantumReply (stopped limits handled next o)

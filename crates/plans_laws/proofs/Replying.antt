@@ -41,7 +41,7 @@ use Rattle.partition_laws.specs.Moves.{first_block}
 use Rattle.partition_laws.proofs.Lists.{find-some}
 use Rattle.plans_laws.specs.Spelled.{PartsSpelled, Spelled}
 use Rattle.plans_laws.proofs.Quanta.{IsQuantumReply, conflict-spelled, first_failing-spelled, quantum-spelled}
-use Rattle.sql_base.proofs.Lists.{all_at}
+use Rattle.sql_base.proofs.ListFacts.{all_at}
 
 -- the free number is at most one more than how many blocks there are
 range-low : (a n high : ℕ) → a + n ≤ high + 1 → AllByRecursion (λ m. m ≤ high) (range_with_len a n)

@@ -18,13 +18,13 @@ use Rattle.partition_laws.specs.Keeping.{CellHas}
 use Rattle.partition_laws.proofs.Lists.{all-each, all-map}
 use Rattle.ranges_laws.proofs.Ranges.{keys_are_keys}
 use Rattle.run_record.specs.Openings.{openings, openings_from, rows_in_part}
-use Rattle.serial_laws.specs.Sound.{FitsHere, Sound}
+use Rattle.serial_laws.specs.Scaffold.Sound.{FitsHere, Sound}
 use Rattle.serial_laws.proofs.Opened.{sound-at, sound-opening}
 use Rattle.plans_laws.specs.Spelled.{CameSpelled, HistoriesSpelled, OpensSpelled, Spelled, envelope_of}
 use Rattle.plans_laws.proofs.Opened.{table_is}
 use Rattle.plans_laws.proofs.SpelledSteps.{replies_spelled, steps_spelled}
 use Rattle.state_facts.proofs.Openings.{all-append}
-use Rattle.sql_base.proofs.Lists.{all_at}
+use Rattle.sql_base.proofs.ListFacts.{all_at}
 
 all-replicate : {X : Type 0} (P : X → Type 0) (n : ℕ) (x : X) → P x → AllByRecursion P (replicate n x)
 all-replicate P zero x h = tt

@@ -29,21 +29,21 @@ use Rattle.session_grammar.specs.Plans.{filter_code, plan_of}
 use Rattle.session_grammar.specs.declared.plans.Plan.{Plan}
 use Rattle.session_grammar.specs.declared.plans.Plan.TheVariants.{Singles, Subsets}
 use Rattle.session_grammar.specs.declared.plans.Sent.{Sent}
-use Rattle.session_laws.specs.Machine.{sents_of as asked_of}
+use Rattle.session_laws.specs.Scaffold.Machine.{sents_of as asked_of}
 use Rattle.session_laws.proofs.Within.{Rise, plans_rise}
 use Rattle.run_record.specs.Openings.{openings, openings_from, rows_in_part}
 use Rattle.run_record.specs.Tiles.{sents_of}
 use Rattle.plans_laws.specs.Asked.{IsSpelled, PlansSpelled}
-use Rattle.plans_laws.specs.Fits.{CarriesFilter, CarriesSets, Fits}
+use Rattle.plans_laws.specs.Scaffold.Fits.{CarriesFilter, CarriesSets, Fits}
 use Rattle.plans_laws.specs.Spelled.{Spelled}
 use Rattle.plans_laws.proofs.Plans.{FitsThere, plans_fit}
 use Rattle.plans_laws.proofs.SpelledHistories.{opening-spelled}
 use Rattle.plans_laws.proofs.Replying.{key-short}
-use Rattle.record_laws.specs.Lanes.{is_begin, is_single}
+use Rattle.record_laws.specs.Scaffold.Lanes.{is_begin, is_single}
 use Rattle.record_laws.proofs.Plans.{ArePlanned, IsAlone, IsBegin, planned}
 use Rattle.partition_laws.proofs.Lists.{all-weaker}
 use Rattle.sql_base.specs.Keys.{key_le}
-use Rattle.sql_base.proofs.Lists.{all_at, all_in, some-at}
+use Rattle.sql_base.proofs.ListFacts.{all_at, all_in, some-at}
 
 -- a prefix is no longer than what it begins
 prefix-short : (key prefix : List ℕ) → starts_with nat_eq key prefix ≡ true → length prefix ≤ length key

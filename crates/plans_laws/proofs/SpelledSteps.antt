@@ -17,7 +17,7 @@ use Rattle.key_sequenced.specs.declared.Cell.{Cell}
 use Rattle.subset_blocks.specs.Blocks.{advanced, closed, find_block, free_number, gone_on, opened}
 use Rattle.subset_blocks.specs.declared.Block.{Block}
 use Rattle.subset_blocks.specs.declared.Numbered.{Numbered}
-use Rattle.quantum_core.specs.Quantum.{changes, locks_after, visits}
+use Rattle.quantum_core.specs.Quantum.{is_change, locks_after, visits}
 use Rattle.quantum_core.specs.Verdicts.{Judged, judged}
 use Rattle.quantum_core.specs.declared.replies.QuantumReply.TheVariants as answers
 use Rattle.quantum_core.specs.declared.works.SetWork.{SetWork}
@@ -44,7 +44,7 @@ use Rattle.partition_laws.proofs.Steps.{Keeps-step}
 use Rattle.plans_laws.specs.Spelled.{PartsSpelled, RepliesSpelled, Spelled, StepsSpelled}
 use Rattle.plans_laws.proofs.Quanta.{IsJudged, IsQuantumReply, judged-spelled, quantum-spelled}
 use Rattle.plans_laws.proofs.Replying.{IsOnce, answer-spelled, key-short, opener-spelled}
-use Rattle.sql_base.proofs.Lists.{all-push, all-take}
+use Rattle.sql_base.proofs.ListFacts.{all-push, all-take}
 use Rattle.sql_base.proofs.Truths.{some-same}
 use Rattle.sql_base.proofs.RowFacts.{same_txn-is}
 
@@ -70,8 +70,8 @@ all-set P (y ∷ xs) (suc i) x h hx = (h.0, all-set P xs i x h.1 hx)
 locks-spelled : (t : TxnName) (js : List Judged) (locks : List Lock) → HasFour t.session → HasFour t.ordinal → AllByRecursion IsJudged js → AllByRecursion IsLock locks → AllByRecursion IsLock (locks_after t js locks)
 locks-spelled t [] locks session ordinal all h = h
 locks-spelled t (j ∷ js) locks session ordinal all h =
-    locks-spelled t js (cond (changes j.verdict) (granted (x_lock t j.key) locks) locks) session ordinal all.1
-    (cond_both (changes j.verdict) (granted (x_lock t j.key) locks) locks (AllByRecursion IsLock) (λ _. all-granted IsLock (x_lock t j.key) locks (session, ordinal, all.0.0) h) (λ _. h))
+    locks-spelled t js (cond (is_change j.verdict) (granted (x_lock t j.key) locks) locks) session ordinal all.1
+    (cond_both (is_change j.verdict) (granted (x_lock t j.key) locks) locks (AllByRecursion IsLock) (λ _. all-granted IsLock (x_lock t j.key) locks (session, ordinal, all.0.0) h) (λ _. h))
 
 -- an end leaves cells with keys that they had
 end-key : (t : TxnName) (kept : Cell → Option (List Value)) (cell cell' : Cell) (o : Option TxnName) → ShortKey cell → ending t kept cell o ≡ Some cell' → ShortKey cell'

@@ -1,3 +1,3 @@
-pub mod Fits
 pub mod Spelled
 pub mod Asked
+pub mod Scaffold

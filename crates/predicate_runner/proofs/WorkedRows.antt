@@ -4,7 +4,7 @@ use Rattle.sql_base.specs.Val.{IsNumber, IsTruth}
 use Rattle.sql_base.specs.declared.faults.EvalFault.TheVariants.{Overflow, ZeroDivide}
 use Rattle.sql_base.specs.declared.values.Value.{Value}
 use Rattle.sql_base.specs.declared.values.Value.TheVariants as value
-use Rattle.predicate_runner.specs.Running.{running}
+use Rattle.predicate_runner.specs.Scaffold.Running.{running}
 
 -- rows of t (k INT, v INT)
 abbrev row : Value → Value → List Value

@@ -8,7 +8,7 @@ use Rattle.sql_base.specs.Kinds.{Kind, OfText, kind_of}
 use Rattle.sql_base.specs.declared.expressions.Expr.{Expr, roll-Expr}
 use Rattle.sql_base.specs.declared.expressions.Expr.TheOpen.{Expr-F, Number, Text, Column, Arith, Compare, And, Or, Not}
 use Rattle.sql_base.specs.declared.tables.TableDef.{TableDef}
-use Rattle.predicate_runner.specs.Texts.{texts_step, has_short_texts}
+use Rattle.predicate_runner.specs.Scaffold.Texts.{texts_step, has_short_texts}
 use Rattle.predicate_codes.proofs.Complete.{some_of_arith, some_of_compare, some_of_truths, some_if}
 use Rattle.predicate_codes.proofs.Layers.{Each, by_layers, fold_layer, kind_layer}
 

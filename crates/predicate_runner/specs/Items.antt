@@ -3,7 +3,7 @@ use Rattle.std.specs.Prelude.{◌≡◌, ◌≤◌, ℕ, ℤ, List, length, map,
 use Rattle.sql_base.specs.Val.{Item, Outcome, IsNumber, IsText, IsTruth, IsNothing}
 use Rattle.sql_base.specs.declared.faults.EvalFault.{EvalFault}
 use Rattle.sql_base.specs.declared.faults.EvalFault.TheVariants.{Overflow}
-use Rattle.predicate_runner.specs.Running.{Ran}
+use Rattle.predicate_runner.specs.Scaffold.Running.{StepResult}
 use Rattle.predicate_runner.specs.declared.items.Item.{Item as Held}
 use Rattle.predicate_runner.specs.declared.items.Item.TheVariants as held
 
@@ -25,7 +25,7 @@ or_overflow (Some n) = Ok n
 or_overflow None = Err Overflow
 
 -- the instruction leaves this stack, and so many bytes to pass over; or a fault; or it can't be carried out
-abbrev pub Came : Ran → List ℕ → List Held → Option (Result ℕ EvalFault) → Type 0
+abbrev pub Came : StepResult → List ℕ → List Held → Option (Result ℕ EvalFault) → Type 0
 Came ran code new None = ran ≡ None
 Came ran code new (Some (Err fault)) = ran ≡ Some (Err fault)
 Came ran code new (Some (Ok skip)) = (ran ≡ Some (Ok (record { skip = skip; stack = items_in new }))) × (skip ≤ length code)

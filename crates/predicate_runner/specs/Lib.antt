@@ -1,5 +1,4 @@
 pub mod Outlines
-pub mod Texts
 pub mod Stepping
-pub mod Running
 pub mod Items
+pub mod Scaffold

@@ -4,7 +4,7 @@ ghost use Rattle.std.specs.Prelude.{◌≡◌, ◌≤◌, ◌<◌, ◌^◌, ◌+
 ghost use Rattle.sql_base.specs.Codes.{code_of, counted};
 ghost use Rattle.sql_base.specs.Kinds.{Kind, IsExpr};
 ghost use Rattle.predicate_codes.specs.Decoding.{byte_of};
-ghost use Rattle.predicate_runner.specs.Texts.{has_short_texts};
+ghost use Rattle.predicate_runner.specs.Scaffold.Texts.{has_short_texts};
 
 use predicate_codes::{Opcode, byte_of};
 use sql_base::{Code, Expr, NoMemory, TableDef};

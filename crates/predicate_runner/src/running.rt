@@ -6,7 +6,7 @@ ghost use Rattle.sql_base.specs.Kinds.{Kind, IsExpr};
 ghost use Rattle.sql_base.specs.Rows.{IsRow};
 ghost use Rattle.sql_base.specs.declared.tables.TableDef.{TableDef};
 ghost use Rattle.predicate_runner.specs.Items.{Came, item_in, items_in, number_in, or_overflow, outcome_in, outcome_of};
-ghost use Rattle.predicate_runner.specs.Running.{kept, ran, running};
+ghost use Rattle.predicate_runner.specs.Scaffold.Running.{kept, ran, running};
 
 use crate::items::Item;
 use crate::steps::counted_in;

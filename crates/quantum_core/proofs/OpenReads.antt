@@ -26,7 +26,7 @@ use Rattle.quantum_core.specs.declared.verdicts.Verdict.TheVariants.{PassedOver,
 use Rattle.quantum_core.specs.declared.works.Doing.TheVariants.{Read}
 use Rattle.quantum_core.specs.declared.works.SetWork.{SetWork}
 use Rattle.quantum_core.proofs.Windows.{in_window, window, rows_in, end_key, end_key-has, window-front, counted, LiesIn, LiesIn-window, Ascends-from_rise}
-use Rattle.sql_base.proofs.Lists.{all-filter, all-take}
+use Rattle.sql_base.proofs.ListFacts.{all-filter, all-take}
 
 -- one more number to try
 at_least_step : (p : ℕ → Bool) (n k : ℕ) (b : Bool) → p (suc n) ≡ b → p k ≡ true → (k ≡ suc n) ⊎ (k < suc n) → (k ≤ n → k ≤ greatest p n) → k ≤ cond b (suc n) (greatest p n)

@@ -17,7 +17,7 @@ use Rattle.sql_base.specs.declared.tables.TableDef.{TableDef}
 use Rattle.key_sequenced.specs.declared.Cell.{Cell}
 use Rattle.subset_blocks.specs.declared.Block.{Block}
 use Rattle.quantum_core.specs.Verdicts.{Judged, judged, is_candidate, verdict}
-use Rattle.quantum_core.specs.Quantum.{quantum, may_handle, reply_to, stopped, cause_of, cause_at, last_key, rows_of, row_of, lets_on, changes}
+use Rattle.quantum_core.specs.Quantum.{quantum, may_handle, reply_to, stopped, cause_of, cause_at, last_key, rows_of, row_of, lets_on, is_change}
 use Rattle.quantum_core.specs.Walk.{IsRead, room_for, given_rows, halted}
 use Rattle.quantum_core.specs.declared.works.SetWork.{SetWork}
 use Rattle.quantum_core.specs.declared.verdicts.Verdict.{Verdict}
@@ -39,7 +39,7 @@ pub record Walked (limits : Limits) (done : List Judged) (rows : List (List ℕ)
   pub visits_are : visits ≡ length done
   pub within : visits ≤ limits.quantum
   pub last_is : last ≡ last_key done
-  pub reads_only : count_by (λ j. changes j.verdict) done ≡ 0
+  pub reads_only : count_by (λ j. is_change j.verdict) done ≡ 0
 
 judged-append : (table : TableDef) (locks : List Lock) (block : Block SetWork) (xs ys : List Cell) → judged table locks block (xs ++ ys) ≡ judged table locks block xs ++ judged table locks block ys
 judged-append table locks block xs ys = simp (filter-append, map-append)
@@ -98,12 +98,12 @@ count_by-push_no p xs x fails =
     omega (arith, one, sum_by-append (λ y. cond (p y) 1 0) xs (x ∷ []))
 
 -- a read stops as the walk says
-stopped-halted : (limits : Limits) (done : List Judged) (next : Judged) (last : Option (List ℕ)) → count_by (λ j. changes j.verdict) done ≡ 0 → stopped limits done next last ≡ halted last (cause_of limits done next) next (rows_of done)
+stopped-halted : (limits : Limits) (done : List Judged) (next : Judged) (last : Option (List ℕ)) → count_by (λ j. is_change j.verdict) done ≡ 0 → stopped limits done next last ≡ halted last (cause_of limits done next) next (rows_of done)
 stopped-halted limits done next (Some key) none = ap (Redrive key (cause_of limits done next) (rows_of done)) none
 stopped-halted limits done next None none = refl
 
 -- the next candidate is handled too
-pub walked_more : (limits : Limits) (done : List Judged) (rows : List (List ℕ)) (room visits : ℕ) (last : Option (List ℕ)) → Walked limits done rows room visits last → (next : Judged) → lets_on next.verdict ≡ true → changes next.verdict ≡ false → room_for next.verdict ≤ room → visits < limits.quantum → Walked limits (done ++ next ∷ []) (rows ++ given_rows next.verdict) (room - room_for next.verdict) (visits + 1) (Some next.key)
+pub walked_more : (limits : Limits) (done : List Judged) (rows : List (List ℕ)) (room visits : ℕ) (last : Option (List ℕ)) → Walked limits done rows room visits last → (next : Judged) → lets_on next.verdict ≡ true → is_change next.verdict ≡ false → room_for next.verdict ≤ room → visits < limits.quantum → Walked limits (done ++ next ∷ []) (rows ++ given_rows next.verdict) (room - room_for next.verdict) (visits + 1) (Some next.key)
 walked_more limits done rows room visits last w next on stays fit lt = record {
   goes_on = rw (goes_on-push, w.goes_on, on) refl;
   rows_are = rw (w.rows_are, rows_of-push) refl;
@@ -111,7 +111,7 @@ walked_more limits done rows room visits last w next on stays fit lt = record {
   visits_are = omega (arith, w.visits_are, length-append done (next ∷ []));
   within = omega arith;
   last_is = sym (last_key-push done next);
-  reads_only = count_by-push_no (λ j. changes j.verdict) done next stays ∙ w.reads_only;
+  reads_only = count_by-push_no (λ j. is_change j.verdict) done next stays ∙ w.reads_only;
 }
 
 fits_push : (limits : Limits) (done : List Judged) (next : Judged) → may_handle limits (done ++ next ∷ []) ≡ true → (lets_on next.verdict ≡ true) × (sum_by (λ row. length row + 2) (rows_of (done ++ next ∷ [])) ≤ limits.buffer)

@@ -12,7 +12,7 @@ use Rattle.key_sequenced.specs.Cells.{AreCells}
 use Rattle.key_sequenced.specs.declared.Cell.{Cell}
 use Rattle.sql_base.specs.Keys.{is_from}
 use Rattle.sql_base.proofs.KeyOrders.{lt_from_not_le, not_lt_from_le, not_le_from_lt, le_from_lt, key_le-refl, key_le-trans, lt-trans}
-use Rattle.sql_base.proofs.Lists.{all-filter, all-take, filter-twice}
+use Rattle.sql_base.proofs.ListFacts.{all-filter, all-take, filter-twice}
 
 -- from the start to the high key
 abbrev pub in_window : Start → List ℕ → Cell → Bool

@@ -44,8 +44,8 @@ change_of (Selected (Becomes row)) = Some (Some row)
 change_of (Selected Goes) = Some None
 change_of verdict = None
 
-abbrev pub changes : Verdict → Bool
-changes verdict = is_there (change_of verdict)
+abbrev pub is_change : Verdict → Bool
+is_change verdict = is_there (change_of verdict)
   where
     is_there : Option (Option (List Value)) → Bool
     is_there None = false
@@ -86,12 +86,12 @@ last_key (j ∷ k ∷ js) = last_key (k ∷ js)
 
 -- a candidate is left: a redrive from the last key handled, or else the refusal of the first
 abbrev pub stopped : Limits → List Judged → Judged → Option (List ℕ) → QuantumReply
-stopped limits handled next (Some last) = Redrive last (cause_of limits handled next) (rows_of handled) (count_by (λ j. changes j.verdict) handled)
+stopped limits handled next (Some last) = Redrive last (cause_of limits handled next) (rows_of handled) (count_by (λ j. is_change j.verdict) handled)
 stopped limits handled next None = refusal next.key next.verdict
 
 -- the answer, by the candidates handled and those that are left
 abbrev pub answer : Limits → List Judged → List Judged → QuantumReply
-answer limits handled [] = Ended (rows_of handled) (count_by (λ j. changes j.verdict) handled)
+answer limits handled [] = Ended (rows_of handled) (count_by (λ j. is_change j.verdict) handled)
 answer limits handled (next ∷ rest) = stopped limits handled next (last_key handled)
 
 abbrev pub reply_to : Limits → List Judged → QuantumReply
@@ -113,7 +113,7 @@ cells_after t handled cells = map (λ cell. cell_after t (change_at cell.key han
 -- with an X on each changed key, unless an own lock covers it
 abbrev pub locks_after : TxnName → List Judged → List Lock → List Lock
 locks_after t [] locks = locks
-locks_after t (j ∷ js) locks = locks_after t js (if changes j.verdict then granted (record { holder = t; prefix = j.key; mode = X }) locks else locks)
+locks_after t (j ∷ js) locks = locks_after t js (if is_change j.verdict then granted (record { holder = t; prefix = j.key; mode = X }) locks else locks)
 
 -- what a quantum leaves
 pub record Handled : Type 0 where

@@ -1,4 +1,4 @@
--- The changes made one after the other leave what the quantum leaves.
+-- The is_change made one after the other leave what the quantum leaves.
 use Rattle.std.proofs.Common.{◌≡◌, ℕ, zero, suc, List, [], ◌∷◌, Bool, true, false, cond, Option, Some, None, map, take, filter, refl, ap, sym, ◌∙◌}
 use Rattle.std.specs.Option.{option_map}
 use Rattle.std.specs.List.{AllByRecursion, cons_option}
@@ -17,7 +17,7 @@ use Rattle.key_sequenced.specs.declared.Cell.{Cell}
 use Rattle.key_sequenced.proofs.Laying.{rewritten-by_key}
 use Rattle.key_sequenced.proofs.Rising.{rise-rewritten}
 use Rattle.subset_blocks.specs.declared.Block.{Block}
-use Rattle.quantum_core.specs.Quantum.{cell_after, cells_after, change_at, change_of, changes, locks_after, quantum, visits}
+use Rattle.quantum_core.specs.Quantum.{cell_after, cells_after, change_at, change_of, is_change, locks_after, quantum, visits}
 use Rattle.quantum_core.specs.Verdicts.{Judged, is_candidate, judged}
 use Rattle.quantum_core.specs.declared.verdicts.Effect.TheVariants.{Gives, Becomes, Goes}
 use Rattle.quantum_core.specs.declared.verdicts.Verdict.{Verdict}
@@ -25,12 +25,12 @@ use Rattle.quantum_core.specs.declared.verdicts.Verdict.TheVariants.{Blocked, Fa
 use Rattle.quantum_core.specs.declared.works.SetWork.{SetWork}
 use Rattle.quantum_core.proofs.Walking.{as_judged}
 use Rattle.quantum_core.proofs.Windows.{Ascends, Ascends-filter, Ascends-from_rise}
-use Rattle.quantum_runner.specs.Plans.{IsWalk, granted_by, handled_by, left_with, plan_of, plans_of, rewritten_by, x_on}
+use Rattle.quantum_runner.specs.Scaffold.Plans.{IsWalk, granted_by, handled_by, left_with, plan_of, plans_of, rewritten_by, x_on}
 use Rattle.quantum_runner.specs.declared.planned.Walk.{Walk}
 use Rattle.quantum_core.specs.declared.replies.QuantumReply.{QuantumReply}
 use Rattle.sql_base.specs.declared.scripts.Limits.{Limits}
 use Rattle.sql_base.proofs.Orderings.{equal-is, key_eq-swapped, reverse-differs}
-use Rattle.sql_base.proofs.Lists.{all-take}
+use Rattle.sql_base.proofs.ListFacts.{all-take}
 
 -- each key is below those behind it
 abbrev pub KeysClimb : List Judged → Type 0
@@ -64,7 +64,7 @@ eq-alike a b c h =
     let same = equal-is (slice_cmp nat_cmp a b) h in
     ap is_eq (nat_list_cmp_total.antisymm c a) ∙ ap (λ o. is_eq (ordering_reverse o)) (nat_list_cmp_total.congr a b c same) ∙ sym (ap is_eq (nat_list_cmp_total.antisymm c b))
 
--- nothing behind a candidate changes its record
+-- nothing behind a candidate is_change its record
 no-change : (key : List ℕ) (j : Judged) (js : List Judged) → key_eq j.key key ≡ true → AllByRecursion (λ k. key_lt j.key k.key ≡ true) js → change_at key js ≡ None
 no-change key j [] e h = refl
 no-change key j (k ∷ js) e h =
@@ -124,7 +124,7 @@ pub granted-handled : (t : TxnName) (js : List Judged) (locks : List Lock) → g
 granted-handled t [] locks = refl
 granted-handled t (j ∷ js) locks = at j.verdict (granted-handled t js)
   where
-    at : (v : Verdict) → ((locks : List Lock) → granted_by (plans_of t js) locks ≡ locks_after t js locks) → granted_by (cons_option (plan_of t j.key v) (plans_of t js)) locks ≡ locks_after t js (cond (changes v) (granted (x_on t j.key) locks) locks)
+    at : (v : Verdict) → ((locks : List Lock) → granted_by (plans_of t js) locks ≡ locks_after t js locks) → granted_by (cons_option (plan_of t j.key v) (plans_of t js)) locks ≡ locks_after t js (cond (is_change v) (granted (x_on t j.key) locks) locks)
     at (Blocked lock) rest = rest locks
     at (Faulty fault) rest = rest locks
     at PassedOver rest = rest locks
@@ -132,13 +132,13 @@ granted-handled t (j ∷ js) locks = at j.verdict (granted-handled t js)
     at (Selected (Becomes row)) rest = rest (granted (x_on t j.key) locks)
     at (Selected Goes) rest = rest (granted (x_on t j.key) locks)
 
--- the changes of a quantum, in its store
+-- the is_change of a quantum, in its store
 pub cells-handled : (table : TableDef) (locks : List Lock) (block : Block SetWork) (cells : List Cell) (n : ℕ) → AreCells cells
     → let js = take n (judged table locks block cells) in rewritten_by (plans_of block.holder js) cells ≡ cells_after block.holder js cells
 cells-handled table locks block cells n h =
     rewritten-handled block.holder (take n (judged table locks block cells)) cells (climb-handled table locks block cells n h) h
 
--- the changes of a walk leave what the quantum leaves
+-- the is_change of a walk leave what the quantum leaves
 pub quantum-left : (limits : Limits) (table : TableDef) (cells : List Cell) (locks : List Lock) (block : Block SetWork) (walk : Walk) → AreCells cells → IsWalk limits table cells locks block walk
     → left_with walk.reply (rewritten_by walk.plans cells) (granted_by walk.plans locks) ≡ quantum limits table cells locks block
 quantum-left limits table cells locks block walk rise w =

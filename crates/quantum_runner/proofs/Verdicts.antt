@@ -12,7 +12,7 @@ use Rattle.quantum_core.specs.declared.works.Doing.TheVariants.{Read, Update, De
 use Rattle.quantum_core.specs.declared.works.SetWork.{SetWork}
 use Rattle.quantum_core.specs.declared.verdicts.Verdict.{Verdict}
 use Rattle.quantum_core.specs.declared.verdicts.Verdict.TheVariants.{Faulty, PassedOver}
-use Rattle.quantum_runner.specs.Works.{bar_to_change, effect_on, predicate_of}
+use Rattle.quantum_runner.specs.Scaffold.Works.{bar_to_change, effect_on, predicate_of}
 
 -- the verdict by whether the predicate is met
 abbrev pub by_predicate : Verdict → Result Bool Fault → Verdict

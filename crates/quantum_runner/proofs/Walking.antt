@@ -18,7 +18,7 @@ use Rattle.sql_base.specs.declared.tables.TableDef.{TableDef}
 use Rattle.key_sequenced.specs.declared.Cell.{Cell}
 use Rattle.subset_blocks.specs.declared.Block.{Block}
 use Rattle.quantum_core.specs.Verdicts.{Judged, judged, is_candidate, verdict}
-use Rattle.quantum_core.specs.Quantum.{may_handle, reply_to, stopped, cause_of, cause_at, last_key, rows_of, row_of, lets_on, changes, visits}
+use Rattle.quantum_core.specs.Quantum.{may_handle, reply_to, stopped, cause_of, cause_at, last_key, rows_of, row_of, lets_on, is_change, visits}
 use Rattle.quantum_core.specs.Walk.{room_for, given_rows}
 use Rattle.quantum_core.specs.declared.works.SetWork.{SetWork}
 use Rattle.quantum_core.specs.declared.replies.QuantumReply.TheVariants.{Ended}
@@ -27,7 +27,7 @@ use Rattle.quantum_core.specs.declared.verdicts.Verdict.TheVariants.{Blocked, Fa
 use Rattle.quantum_core.specs.declared.verdicts.Effect.TheVariants.{Gives, Becomes, Goes}
 use Rattle.quantum_core.proofs.Greatest.{stops, ends, visits_stop, visits_end}
 use Rattle.quantum_core.proofs.Walking.{as_judged, judged_more, judged_split}
-use Rattle.quantum_runner.specs.Plans.{IsWalk, halted, handled_by, option_list, plan_of, plans_of}
+use Rattle.quantum_runner.specs.Scaffold.Plans.{IsWalk, halted, handled_by, option_list, plan_of, plans_of}
 use Rattle.quantum_runner.specs.declared.planned.Planned.{Planned}
 use Rattle.quantum_runner.specs.declared.planned.Walk.{Walk}
 use Rattle.sql_base.proofs.Truths.{if_not_true}
@@ -40,7 +40,7 @@ pub record Walked (limits : Limits) (t : TxnName) (done : List Judged) (rows : L
   pub visits_are : visited ≡ length done
   pub within : visited ≤ limits.quantum
   pub last_is : last ≡ last_key done
-  pub changed_are : changed ≡ count_by (λ j. changes j.verdict) done
+  pub changed_are : changed ≡ count_by (λ j. is_change j.verdict) done
   pub plans_are : plans ≡ plans_of t done
 
 last_key-push : (js : List Judged) (j : Judged) → last_key (js ++ j ∷ []) ≡ Some j.key
@@ -101,7 +101,7 @@ walked_fits limits t done rows room visited changed plans last w =
 
 -- the next candidate is handled too
 walked_more : (limits : Limits) (t : TxnName) (done : List Judged) (rows : List (List ℕ)) (room visited changed : ℕ) (plans : List Planned) (last : Option (List ℕ)) → Walked limits t done rows room visited changed plans last → (next : Judged) → lets_on next.verdict ≡ true → room_for next.verdict ≤ room → visited < limits.quantum
-    → Walked limits t (done ++ next ∷ []) (rows ++ given_rows next.verdict) (room - room_for next.verdict) (visited + 1) (changed + cond (changes next.verdict) 1 0) (plans ++ option_list (plan_of t next.key next.verdict)) (Some next.key)
+    → Walked limits t (done ++ next ∷ []) (rows ++ given_rows next.verdict) (room - room_for next.verdict) (visited + 1) (changed + cond (is_change next.verdict) 1 0) (plans ++ option_list (plan_of t next.key next.verdict)) (Some next.key)
 walked_more limits t done rows room visited changed plans last w next on fit lt = record {
   goes_on = rw (goes_on-push, w.goes_on, on) refl;
   rows_are = rw (w.rows_are, rows_of-push) refl;
@@ -109,7 +109,7 @@ walked_more limits t done rows room visited changed plans last w next on fit lt 
   visits_are = omega (arith, w.visits_are, length-append done (next ∷ []));
   within = omega arith;
   last_is = sym (last_key-push done next);
-  changed_are = ap (λ n. n + cond (changes next.verdict) 1 0) w.changed_are ∙ sym (count-push (λ j. changes j.verdict) done next);
+  changed_are = ap (λ n. n + cond (is_change next.verdict) 1 0) w.changed_are ∙ sym (count-push (λ j. is_change j.verdict) done next);
   plans_are = ap (λ ps. ps ++ option_list (plan_of t next.key next.verdict)) w.plans_are ∙ sym (plans-push t done next);
 }
 
@@ -120,7 +120,7 @@ misfit : (limits : Limits) (t : TxnName) (done : List Judged) (rows : List (List
 misfit limits t done rows room visited changed plans last w next stop = if_not_true _ (λ h.
     let both = fits_push limits done next h in stop (both.0, omega (arith, both.1, w.room_is, room-push done next)))
 
-stopped-halted : (limits : Limits) (done : List Judged) (next : Judged) (last : Option (List ℕ)) → stopped limits done next last ≡ halted last (cause_of limits done next) next (rows_of done) (count_by (λ j. changes j.verdict) done)
+stopped-halted : (limits : Limits) (done : List Judged) (next : Judged) (last : Option (List ℕ)) → stopped limits done next last ≡ halted last (cause_of limits done next) next (rows_of done) (count_by (λ j. is_change j.verdict) done)
 stopped-halted limits done next (Some key) = refl
 stopped-halted limits done next None = refl
 
@@ -190,7 +190,7 @@ stop_at_verdict limits table locks block cells i cell rows room visited changed 
     same
 
 pub more_at : (limits : Limits) (table : TableDef) (locks : List Lock) (block : Block SetWork) (cells : List Cell) (i : ℕ) (cell : Cell) (rows : List (List ℕ)) (room visited changed : ℕ) (plans : List Planned) (last : Option (List ℕ)) → IsAt limits table locks block cells i cell rows room visited changed plans last → (v : Verdict) → v ≡ verdict table locks block cell → lets_on v ≡ true → room_for v ≤ room → visited < limits.quantum
-    → Walked limits block.holder (judged table locks block (take (i + 1) cells)) (rows ++ given_rows v) (room - room_for v) (visited + 1) (changed + cond (changes v) 1 0) (plans ++ option_list (plan_of block.holder cell.key v)) (Some cell.key)
+    → Walked limits block.holder (judged table locks block (take (i + 1) cells)) (rows ++ given_rows v) (room - room_for v) (visited + 1) (changed + cond (is_change v) 1 0) (plans ++ option_list (plan_of block.holder cell.key v)) (Some cell.key)
 more_at limits table locks block cells i cell rows room visited changed plans last h v e on fit lt =
     rw (judged_more table locks block cells i cell h.below h.is true h.seen, e)
     (walked_more limits block.holder (judged table locks block (take i cells)) rows room visited changed plans last h.walked (as_judged table locks block cell) (ap lets_on (sym e) ∙ on) (subst (λ x. room_for x ≤ room) e fit) lt)

@@ -2,7 +2,7 @@
 ghost use Rattle.std.specs.Prelude.{◌≡◌, IfOk, option_copied};
 ghost use Rattle.sql_base.specs.Rows.{IsRow};
 ghost use Rattle.quantum_core.specs.Verdicts.{barrier, on_met, on_row, verdict};
-ghost use Rattle.quantum_runner.specs.Works.{HoldsRow, IsWork, bar_to_change};
+ghost use Rattle.quantum_runner.specs.Scaffold.Works.{HoldsRow, IsWork, bar_to_change};
 ghost use Rattle.std.specs.Prelude.{Some};
 
 use crate::tables::CheckedTable;

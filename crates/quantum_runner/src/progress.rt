@@ -1,8 +1,8 @@
 //! What a walk keeps of the candidates that it has handled.
 ghost use Rattle.std.specs.Prelude.{◌≡◌, ◌≤◌, ◌<◌, ◌+◌, ◌-◌, ◌^◌, ◌++◌, [], ◌↔◌, IfOk, OnOk, IfSome, IsNone, IsTrue, option_copied, if◌then◌else◌};
-ghost use Rattle.quantum_core.specs.Quantum.{cause_at, changes, lets_on, refusal};
+ghost use Rattle.quantum_core.specs.Quantum.{cause_at, is_change, lets_on, refusal};
 ghost use Rattle.quantum_core.specs.Walk.{given_rows, room_for};
-ghost use Rattle.quantum_runner.specs.Plans.{halted, option_list, plan_of, x_on};
+ghost use Rattle.quantum_runner.specs.Scaffold.Plans.{halted, option_list, plan_of, x_on};
 
 use crate::planned::{Planned, Walk};
 use quantum_core::{Effect, QuantumReply, Verdict};
@@ -52,7 +52,7 @@ impl Progress {
         ensures rows { OnOk result (self.new.rows ≡ self.old.rows ++ given_rows verdict) }
         ensures room { OnOk result (self.new.room ≡ self.old.room - room_for verdict) }
         ensures visits { OnOk result (self.new.visits ≡ self.old.visits + 1) }
-        ensures changed { OnOk result (self.new.changed ≡ self.old.changed + (if changes verdict then 1 else 0)) }
+        ensures changed { OnOk result (self.new.changed ≡ self.old.changed + (if is_change verdict then 1 else 0)) }
         ensures plans { OnOk result (self.new.plans ≡ self.old.plans ++ option_list (plan_of holder key.now verdict)) }
     {
         self.visits += 1;
@@ -174,7 +174,7 @@ fn room_of(verdict: &Verdict) -> usize
 }
 
 fn is_change(verdict: &Verdict) -> bool
-    ensures { result ≡ changes verdict.now }
+    ensures { result ≡ is_change verdict.now }
 {
     match verdict {
         Verdict::Blocked(_) => false,

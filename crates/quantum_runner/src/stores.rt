@@ -4,8 +4,8 @@ ghost use Rattle.sql_base.specs.Locks.{granted};
 ghost use Rattle.sql_base.specs.Scripts.{AreLimits};
 ghost use Rattle.key_sequenced.specs.Files.{rewritten_at};
 ghost use Rattle.quantum_core.specs.Quantum.{quantum};
-ghost use Rattle.quantum_runner.specs.Plans.{granted_by, left_with, rewritten_by};
-ghost use Rattle.quantum_runner.specs.Works.{HoldsRow, IsWork};
+ghost use Rattle.quantum_runner.specs.Scaffold.Plans.{granted_by, left_with, rewritten_by};
+ghost use Rattle.quantum_runner.specs.Scaffold.Works.{HoldsRow, IsWork};
 
 use crate::planned::{Planned, Walk};
 use crate::tables::CheckedTable;

@@ -1,7 +1,7 @@
 //! The walk over the cells of a file, up to the end of a quantum.
 ghost use Rattle.std.specs.Prelude.{◌<◌, IfOk, All};
-ghost use Rattle.quantum_runner.specs.Plans.{IsWalk};
-ghost use Rattle.quantum_runner.specs.Works.{HoldsRow, IsWork};
+ghost use Rattle.quantum_runner.specs.Scaffold.Plans.{IsWalk};
+ghost use Rattle.quantum_runner.specs.Scaffold.Works.{HoldsRow, IsWork};
 
 use crate::candidates::sees;
 use crate::judges::judge;

@@ -8,7 +8,7 @@ ghost use Rattle.sql_base.specs.Val.{filter_val, val};
 ghost use Rattle.sql_base.specs.declared.tables.TableDef.{TableDef};
 ghost use Rattle.constraint_checks.specs.Judging.{tree_of};
 ghost use Rattle.quantum_core.specs.Verdicts.{if_kept, on_new_row};
-ghost use Rattle.quantum_runner.specs.Works.{IsDoing, does_change, doing_in, effect_on, predicate_of};
+ghost use Rattle.quantum_runner.specs.Scaffold.Works.{IsDoing, does_change, doing_in, effect_on, predicate_of};
 
 use crate::tables::CheckedTable;
 use predicate_runner::{Item, Verified, run};
@@ -42,7 +42,7 @@ impl Model for Work {
     ghost use Rattle.sql_base.specs.contracts.expressions.Expr as e;
     ghost use Rattle.constraint_checks.specs.Judging.{tree_of};
     ghost use Rattle.quantum_core.specs.declared.works.SetWork as set_work;
-    ghost use Rattle.quantum_runner.specs.Works.{doing_in};
+    ghost use Rattle.quantum_runner.specs.Scaffold.Works.{doing_in};
 
     ghost Value = { set_work.SetWork };
 

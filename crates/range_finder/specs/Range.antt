@@ -63,7 +63,7 @@ bounds_of None = []
 bounds_of (Some e) = bounds_in (fold-Expr Shape shape_step e)
 
 -- what the bounds leave of a key column, as bytes; a side without a bound is none
-pub record Interval : Type 0 where
+pub record ColumnInterval : Type 0 where
   pub low : Option (List ℕ)
   pub high : Option (List ℕ)
   pub is_empty : Bool
@@ -97,7 +97,7 @@ number_bound i bound = narrow bound.literal
     narrow (value.Text text) = i
 
 -- a number column begins with all 64 bit numbers
-abbrev pub number_interval : List Bound → Interval
+abbrev pub number_interval : List Bound → ColumnInterval
 number_interval bounds =
     let i = fold number_bound (record { low = negsuc (2 ^ 63 - 1); high = pos (2 ^ 63 - 1) }) bounds in
     record { low = Some (key_value Int (value.Int i.low)); high = Some (key_value Int (value.Int i.high)); is_empty = int_lt i.high i.low; is_one = int_eq i.low i.high }
@@ -125,13 +125,13 @@ on_both test (Some low) (Some high) = test low high
 on_both test low high = false
 
 -- a text column begins without bounds
-abbrev pub text_interval : ℕ → List Bound → Interval
+abbrev pub text_interval : ℕ → List Bound → ColumnInterval
 text_interval width bounds =
     let low = best key_max (filter_map (λ bound. low_text width bound.op bound.literal) bounds) in
     let high = best key_min (filter_map (λ bound. high_text width bound.op bound.literal) bounds) in
     record { low = low; high = high; is_empty = on_both (λ l h. key_lt h l) low high; is_one = on_both key_eq low high }
 
-abbrev pub interval : ColumnKind → List Bound → Interval
+abbrev pub interval : ColumnKind → List Bound → ColumnInterval
 interval Int bounds = number_interval bounds
 interval (Char width) bounds = text_interval width bounds
 

@@ -28,7 +28,7 @@ use Rattle.session_grammar.specs.Rows.{IsAsked}
 use Rattle.run_record.specs.Serial.{givens_of}
 use Rattle.run_record.specs.Text.{shown_of}
 use Rattle.record_laws.proofs.Attempts.{IsOwn, IsWork as IsWorkOf, parts-work}
-use Rattle.record_text.specs.Reading.{behind, behind_all, given_by, givens_read, is_locked_out, most_parts, ordinal_of, outcome_of, own, own_length, shown_read, tries_read, works_read}
+use Rattle.record_text.specs.Scaffold.Reading.{behind, behind_all, given_by, givens_read, is_locked_out, most_parts, ordinal_of, outcome_of, own, own_length, shown_read, tries_read, works_read}
 use Rattle.record_text.proofs.Outcomes.{outcome-read}
 use Rattle.record_text.proofs.PartsRead.{givens-read}
 use Rattle.session_laws.proofs.Loose.{all_on}

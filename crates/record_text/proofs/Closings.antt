@@ -14,15 +14,15 @@ use Rattle.session_grammar.specs.declared.logs.Answer.{Answer}
 use Rattle.session_grammar.specs.declared.logs.Answer.TheVariants.{PathFailed, Reply, Stamp}
 use Rattle.session_grammar.specs.declared.logs.LogEntry.{LogEntry}
 use Rattle.session_grammar.specs.declared.logs.LogEntry.TheVariants.{Asked, Drew}
-use Rattle.session_grammar.specs.Follows.{AfterRow, AreRows, AreTheirs, InTurn, IsList, IsSingle, joined, projection}
+use Rattle.session_grammar.specs.Follows.{AfterRow, AreExchanges, AreTheirs, InTurn, IsList, IsSingle, joined, projection}
 use Rattle.session_grammar.specs.Plans.{Asker}
 use Rattle.session_grammar.specs.declared.plans.Sent.{Sent}
-use Rattle.session_grammar.specs.Rows.{IsAsked, IsRow, IsSent, failure, fits, is_for}
+use Rattle.session_grammar.specs.Rows.{IsAsked, IsExchange, IsSent, failure, fits, is_for}
 use Rattle.session_laws.proofs.Within.{Rise}
-use Rattle.record_laws.specs.Lanes.{is_single}
+use Rattle.record_laws.specs.Scaffold.Lanes.{is_single}
 use Rattle.record_laws.proofs.Plans.{IsAlone}
 use Rattle.sql_base.specs.declared.faults.Cause.{Cause}
-use Rattle.record_text.specs.Reading.{closes, closes_reply, part_length}
+use Rattle.record_text.specs.Scaffold.Reading.{closes, closes_reply, part_length}
 
 -- how many entries close, and whether the last one does
 abbrev pub how_often : List LogEntry → ℕ
@@ -121,7 +121,7 @@ record RowCloses (answer : Answer) (row : List LogEntry) : Type 0 where
   open_front : AllByRecursion (λ e. closes e ≡ false) front
   last_closes : closes last ≡ closes_answer answer
 
-row-closes : (n part : ℕ) (request : Request) (row : List LogEntry) (answer : Answer) → IsRow n part request row answer → RowCloses answer row
+row-closes : (n part : ℕ) (request : Request) (row : List LogEntry) (answer : Answer) → IsExchange n part request row answer → RowCloses answer row
 row-closes n part request [] answer h = absurd h
 row-closes n part request (e ∷ []) answer h = record { front = []; last = e; row_is = refl; open_front = tt; last_closes = asked-closes part request answer e h.0 }
 row-closes zero part request (e ∷ f ∷ es) answer h = absurd h
@@ -153,7 +153,7 @@ module _ (r : Asker) (ordinal part : ℕ) where
   not_none : (answer : Answer) (end : Option Abort) → end ≡ None → failure answer ≡ end → failure answer ≡ None
   not_none answer end none is = is ∙ none
 
-  rows-once : (a : Ask) (rows : List (List LogEntry)) → AreRows r ordinal part a rows None → ClosesOnce (joined rows)
+  rows-once : (a : Ask) (rows : List (List LogEntry)) → AreExchanges r ordinal part a rows None → ClosesOnce (joined rows)
   rows-once a [] h = absurd h
   rows-once a (row ∷ rows) h =
       behind h.0 (row-closes r.limits.patience part (record { ordinal = ordinal; ask = a }) row h.0 h.1) h.2 (λ subset last more. rows-once (ask.Continue subset last) rows more)
@@ -161,8 +161,8 @@ module _ (r : Asker) (ordinal part : ℕ) where
       ended : (list : List LogEntry) → ClosesOnce list → (ls : List (List LogEntry)) → ls ≡ [] → ClosesOnce (list ++ joined ls)
       ended list once ls is = subst (λ (x : List (List LogEntry)). ClosesOnce (list ++ joined x)) (sym is) (subst ClosesOnce (sym (append-nil list)) once)
 
-      behind : (answer : Answer) → RowCloses answer row → AfterRow answer (λ subset last. AreRows r ordinal part (ask.Continue subset last) rows None) rows None
-          → ((subset : ℕ) (last : List ℕ) → AreRows r ordinal part (ask.Continue subset last) rows None → ClosesOnce (joined rows)) → ClosesOnce (row ++ joined rows)
+      behind : (answer : Answer) → RowCloses answer row → AfterRow answer (λ subset last. AreExchanges r ordinal part (ask.Continue subset last) rows None) rows None
+          → ((subset : ℕ) (last : List ℕ) → AreExchanges r ordinal part (ask.Continue subset last) rows None → ClosesOnce (joined rows)) → ClosesOnce (row ++ joined rows)
       behind (Reply (reply.Redrive subset last cause out changed)) c g more = open-before row (joined rows) (all_open (Reply (reply.Redrive subset last cause out changed)) row refl c) (more subset last g)
       behind (Reply (reply.Ended out changed)) c g more = ended row (row-once (Reply (reply.Ended out changed)) row refl c) rows g.0
       behind answer c g more = absurd (false≢true (subst IsSome (sym g.2) g.1))
@@ -191,7 +191,7 @@ AnySent sent = Unit {0}
 pub list-closes : (r : Asker) (ordinal : ℕ) → Closes (IsList r ordinal) AnySent
 list-closes r ordinal = record { once = λ sent list s h. subst ClosesOnce (sym h.1) (rows-once r ordinal sent.part sent.ask h.0 h.2) }
 
-row-sent : (n part : ℕ) (request : Request) (row : List LogEntry) (answer : Answer) → IsRow n part request row answer → (losses : ℕ) × IsSent request.ask losses answer
+row-sent : (n part : ℕ) (request : Request) (row : List LogEntry) (answer : Answer) → IsExchange n part request row answer → (losses : ℕ) × IsSent request.ask losses answer
 row-sent n part request [] answer h = absurd h
 row-sent n part request (Asked p sync q losses w ∷ []) answer h = (losses, subst (λ (a : Ask). IsSent a losses answer) (ap (λ (x : Request). x.ask) h.0.1) (subst (IsSent q.ask losses) h.0.2 h.0.3))
 row-sent n part request (Drew m f w ∷ []) answer h = absurd h.0

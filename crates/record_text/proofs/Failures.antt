@@ -12,11 +12,11 @@ use Rattle.session_grammar.specs.declared.logs.Answer.{Answer}
 use Rattle.session_grammar.specs.declared.logs.Answer.TheVariants.{Reply}
 use Rattle.session_grammar.specs.declared.logs.LogEntry.{LogEntry}
 use Rattle.session_grammar.specs.declared.logs.LogEntry.TheVariants.{Asked, Drew}
-use Rattle.session_grammar.specs.Follows.{AfterRow, AreRows, IsList, IsSingle, joined}
+use Rattle.session_grammar.specs.Follows.{AfterRow, AreExchanges, IsList, IsSingle, joined}
 use Rattle.session_grammar.specs.Plans.{Asker}
 use Rattle.session_grammar.specs.declared.plans.Sent.{Sent}
-use Rattle.session_grammar.specs.Rows.{IsAsked, IsRow, failure, is_end, is_for}
-use Rattle.record_text.specs.Reading.{failure_behind, last_failure}
+use Rattle.session_grammar.specs.Rows.{IsAsked, IsExchange, failure, is_end, is_for}
+use Rattle.record_text.specs.Scaffold.Reading.{failure_behind, last_failure}
 use Rattle.session_laws.proofs.Loose.{all_on}
 
 -- what was asked of one partition, and no End
@@ -63,7 +63,7 @@ module _ (part : ℕ) where
       never false = refl
   end-behind found request answer other (Drew n f a) is h = absurd h
 
-  pub row-last : (n : ℕ) (found : Option Abort) (request : Request) (row : List LogEntry) (answer : Answer) → is_end request.ask ≡ false → IsRow n part request row answer → last_failure part found row ≡ failure answer
+  pub row-last : (n : ℕ) (found : Option Abort) (request : Request) (row : List LogEntry) (answer : Answer) → is_end request.ask ≡ false → IsExchange n part request row answer → last_failure part found row ≡ failure answer
   row-last n found request [] answer none h = absurd h
   row-last n found request (e ∷ []) answer none h = asked-behind found request answer e none h.0
   row-last zero found request (e ∷ f ∷ es) answer none h = absurd h
@@ -73,7 +73,7 @@ asked_work : (part : ℕ) (request : Request) (answer : Answer) (e : LogEntry) �
 asked_work part request answer (Asked p s q l a) none h = (h.0, ap (λ (x : Request). is_end x.ask) h.1 ∙ none)
 asked_work part request answer (Drew n f a) none h = absurd h
 
-pub row_work : (n part : ℕ) (request : Request) (row : List LogEntry) (answer : Answer) → is_end request.ask ≡ false → IsRow n part request row answer → AllByRecursion (IsWork part) row
+pub row_work : (n part : ℕ) (request : Request) (row : List LogEntry) (answer : Answer) → is_end request.ask ≡ false → IsExchange n part request row answer → AllByRecursion (IsWork part) row
 row_work n part request [] answer none h = absurd h
 row_work n part request (e ∷ []) answer none h = (asked_work part request answer e none h.0, tt)
 row_work zero part request (e ∷ f ∷ es) answer none h = absurd h
@@ -96,13 +96,13 @@ module _ (r : Asker) (ordinal part : ℕ) where
   none_work : (rows : List (List LogEntry)) → rows ≡ [] → AllByRecursion (IsWork part) (joined rows)
   none_work rows is = subst (λ (x : List (List LogEntry)). AllByRecursion (IsWork part) (joined x)) (sym is) tt
 
-  after_work : (answer : Answer) (rows : List (List LogEntry)) (end : Option Abort) → AfterRow answer (λ subset last. AreRows r ordinal part (Continue subset last) rows end) rows end
-      → ((subset : ℕ) (last : List ℕ) → AreRows r ordinal part (Continue subset last) rows end → AllByRecursion (IsWork part) (joined rows)) → AllByRecursion (IsWork part) (joined rows)
+  after_work : (answer : Answer) (rows : List (List LogEntry)) (end : Option Abort) → AfterRow answer (λ subset last. AreExchanges r ordinal part (Continue subset last) rows end) rows end
+      → ((subset : ℕ) (last : List ℕ) → AreExchanges r ordinal part (Continue subset last) rows end → AllByRecursion (IsWork part) (joined rows)) → AllByRecursion (IsWork part) (joined rows)
   after_work (Reply (reply.Redrive subset last cause out changed)) rows end h more = more subset last h
   after_work (Reply (reply.Ended out changed)) rows end h more = none_work rows h.0
   after_work answer rows end h more = none_work rows h.0
 
-  rows_work : (ask : Ask) (rows : List (List LogEntry)) (end : Option Abort) → is_end ask ≡ false → AreRows r ordinal part ask rows end → AllByRecursion (IsWork part) (joined rows)
+  rows_work : (ask : Ask) (rows : List (List LogEntry)) (end : Option Abort) → is_end ask ≡ false → AreExchanges r ordinal part ask rows end → AllByRecursion (IsWork part) (joined rows)
   rows_work ask [] end none h = absurd h
   rows_work ask (row ∷ rows) end none h =
       all_on (IsWork part) row (joined rows) (row_work r.limits.patience part (record { ordinal = ordinal; ask = ask }) row h.0 none h.1)
@@ -111,13 +111,13 @@ module _ (r : Asker) (ordinal part : ℕ) where
   none_last : (found end : Option Abort) (rows : List (List LogEntry)) → rows ≡ [] → end ≡ found → last_failure part found (joined rows) ≡ end
   none_last found end rows is e = ap (λ (x : List (List LogEntry)). last_failure part found (joined x)) is ∙ sym e
 
-  after_last : (answer : Answer) (rows : List (List LogEntry)) (end : Option Abort) → AfterRow answer (λ subset last. AreRows r ordinal part (Continue subset last) rows end) rows end
-      → ((subset : ℕ) (last : List ℕ) → AreRows r ordinal part (Continue subset last) rows end → last_failure part (failure answer) (joined rows) ≡ end) → last_failure part (failure answer) (joined rows) ≡ end
+  after_last : (answer : Answer) (rows : List (List LogEntry)) (end : Option Abort) → AfterRow answer (λ subset last. AreExchanges r ordinal part (Continue subset last) rows end) rows end
+      → ((subset : ℕ) (last : List ℕ) → AreExchanges r ordinal part (Continue subset last) rows end → last_failure part (failure answer) (joined rows) ≡ end) → last_failure part (failure answer) (joined rows) ≡ end
   after_last (Reply (reply.Redrive subset last cause out changed)) rows end h more = more subset last h
   after_last (Reply (reply.Ended out changed)) rows end h more = none_last None end rows h.0 h.1
   after_last answer rows end h more = none_last (failure answer) end rows h.0 h.2
 
-  rows_last : (ask : Ask) (found : Option Abort) (rows : List (List LogEntry)) (end : Option Abort) → is_end ask ≡ false → AreRows r ordinal part ask rows end → last_failure part found (joined rows) ≡ end
+  rows_last : (ask : Ask) (found : Option Abort) (rows : List (List LogEntry)) (end : Option Abort) → is_end ask ≡ false → AreExchanges r ordinal part ask rows end → last_failure part found (joined rows) ≡ end
   rows_last ask found [] end none h = absurd h
   rows_last ask found (row ∷ rows) end none h =
       last-append part found row (joined rows)

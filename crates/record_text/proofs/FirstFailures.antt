@@ -16,9 +16,9 @@ use Rattle.session_grammar.specs.declared.plans.Plan.TheVariants.{Singles, Subse
 use Rattle.session_grammar.specs.declared.plans.Sent.{Sent}
 use Rattle.session_grammar.specs.Rows.{is_for}
 use Rattle.run_record.specs.Tiles.{sents_of}
-use Rattle.session_laws.specs.Machine.{sents_of as asked_of}
+use Rattle.session_laws.specs.Scaffold.Machine.{sents_of as asked_of}
 use Rattle.session_laws.proofs.Within.{Rise, plans_rise}
-use Rattle.record_text.specs.Reading.{first_failure, last_failure, most_parts, or_else}
+use Rattle.record_text.specs.Scaffold.Reading.{first_failure, last_failure, most_parts, or_else}
 use Rattle.record_text.proofs.Failures.{IsPartOf, IsWork, Tells, last-append, last-others, last-projected, list-tells, single-tells, works-other}
 
 -- the failure of the first of these that failed

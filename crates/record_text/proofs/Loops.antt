@@ -13,7 +13,7 @@ use Rattle.one_thread.proofs.Failing.{at_drop}
 use Rattle.session_grammar.specs.declared.logs.LogEntry.{LogEntry}
 use Rattle.session_grammar.specs.Follows.{asker}
 use Rattle.session_grammar.specs.Plans.{Asker}
-use Rattle.record_text.specs.Reading.{behind, behind_all, closes, first_failure, is_locked_out, last_failure, or_else, outcome_of, own, part_length, sessions_read, shown_read, tries_read, works_read}
+use Rattle.record_text.specs.Scaffold.Reading.{behind, behind_all, closes, first_failure, is_locked_out, last_failure, or_else, outcome_of, own, part_length, sessions_read, shown_read, tries_read, works_read}
 
 -- the first partition that failed
 module _ (es : List LogEntry) (n part : ℕ) (within : part < n) where

@@ -25,7 +25,7 @@ use Rattle.run_record.specs.Tiles.{sents_of}
 use Rattle.partition_state.specs.Step.{is_closing}
 use Rattle.record_laws.proofs.Attempts.{IsOwn, IsWork as IsWorkOf, parts-work}
 use Rattle.record_laws.proofs.Plans.{plan-work}
-use Rattle.record_text.specs.Reading.{drawn, first_failure, last_failure, most_parts, or_else, outcome_by, outcome_of}
+use Rattle.record_text.specs.Scaffold.Reading.{drawn, first_failure, last_failure, most_parts, or_else, outcome_by, outcome_of}
 use Rattle.record_text.proofs.Failures.{IsPartOf, end-behind, last-append}
 use Rattle.record_text.proofs.FirstFailures.{part-told}
 

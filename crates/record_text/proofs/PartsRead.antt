@@ -12,12 +12,12 @@ use Rattle.session_grammar.specs.Plans.{Asker, plan_of}
 use Rattle.session_grammar.specs.declared.plans.Plan.{Plan}
 use Rattle.session_grammar.specs.declared.plans.Plan.TheVariants.{Singles, Subsets}
 use Rattle.session_grammar.specs.declared.plans.Sent.{Sent}
-use Rattle.session_laws.specs.Machine.{sents_of as asked_of}
+use Rattle.session_laws.specs.Scaffold.Machine.{sents_of as asked_of}
 use Rattle.session_laws.proofs.Within.{Rise, plans_rise}
-use Rattle.run_record.specs.Serial.{given_of, givens_of}
+use Rattle.run_record.specs.Serial.{part_gives, givens_of}
 use Rattle.run_record.specs.Tiles.{sents_of}
 use Rattle.record_laws.proofs.Plans.{ArePlanned, IsAlone, planned}
-use Rattle.record_text.specs.Reading.{givens_read, how_many, part_length}
+use Rattle.record_text.specs.Scaffold.Reading.{givens_read, how_many, part_length}
 use Rattle.record_text.proofs.Closings.{AnySent, ClosesEach, ClosesOnce, list-closes, lists-close, part-front, single-closes_once, wide-close}
 
 any_sents : (sents : List Sent) → AllByRecursion AnySent sents
@@ -56,5 +56,5 @@ module _ (r : Asker) (ordinal : ℕ) where
       (λ i. take (long i) (whole i)) ∙ take_at part (joined parts ++ rest) (length part) refl in
       let back : drop (part_length (how_many r s) ((part ++ joined parts) ++ rest)) ((part ++ joined parts) ++ rest) ≡ joined parts ++ rest =
       (λ i. drop (long i) (whole i)) ∙ drop_at part (joined parts ++ rest) (length part) refl in
-      (λ i. given_of r s (front i) ∷ givens_read r statements (back i)) ∙ ap (λ (gs : List Given). given_of r s part ∷ gs) (givens-read statements parts rest h.1)
+      (λ i. part_gives r s (front i) ∷ givens_read r statements (back i)) ∙ ap (λ (gs : List Given). part_gives r s part ∷ gs) (givens-read statements parts rest h.1)
   givens-read (s ∷ statements) (part ∷ parts) rest (inr h) = absurd (false≢true h.1)

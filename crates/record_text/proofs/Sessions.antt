@@ -20,7 +20,7 @@ use Rattle.run_record.specs.Openings.{by_part, log_of, openings, rows_left}
 use Rattle.run_record.specs.Serial.{final_records}
 use Rattle.run_record.specs.Text.{IsText, ShowSessions, shown_of}
 use Rattle.run_record.specs.declared.records.RunRecord.{RunRecord}
-use Rattle.record_text.specs.Reading.{rows_joined, sessions_read, tables_read, works_read}
+use Rattle.record_text.specs.Scaffold.Reading.{rows_joined, sessions_read, tables_read, works_read}
 use Rattle.record_text.proofs.Attempts.{texts, works-read}
 
 -- an element of a list behind some others

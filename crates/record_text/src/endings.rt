@@ -1,7 +1,7 @@
 //! How an attempt ended, by its entries.
 ghost use Rattle.std.specs.Prelude.{◌≡◌, IfOk, None};
 ghost use Rattle.std.specs.List.{range_with_len};
-ghost use Rattle.record_text.specs.Reading.{drawn, first_failure, is_locked_out, last_failure, most_parts, outcome_by, outcome_of};
+ghost use Rattle.record_text.specs.Scaffold.Reading.{drawn, first_failure, is_locked_out, last_failure, most_parts, outcome_by, outcome_of};
 
 use crate::entries::{failure_behind, stamp_of};
 use session_grammar::LogEntry;

@@ -1,7 +1,7 @@
 //! What an entry of a log tells.
 ghost use Rattle.std.specs.Prelude.{◌≡◌, ◌≤◌, length, IfOk};
 ghost use Rattle.session_grammar.specs.Rows.{failure, is_end};
-ghost use Rattle.record_text.specs.Reading.{closes, closes_reply, failure_behind, ordinal_of, own_length, stamp_of};
+ghost use Rattle.record_text.specs.Scaffold.Reading.{closes, closes_reply, failure_behind, ordinal_of, own_length, stamp_of};
 
 use dp_messages::{Ask, Reply};
 use session_grammar::{Answer, LogEntry};

@@ -6,10 +6,10 @@ ghost use Rattle.sql_base.specs.Scripts.{parts_of};
 ghost use Rattle.sql_base.specs.Tables.{IsStatement, IsTable};
 ghost use Rattle.session_grammar.specs.Plans.{Asker, plan_of};
 ghost use Rattle.session_grammar.specs.Rows.{is_for};
-ghost use Rattle.run_record.specs.Serial.{entry_changed, entry_rows, given_of};
+ghost use Rattle.run_record.specs.Serial.{entry_changed, entry_rows, part_gives};
 ghost use Rattle.run_record.specs.Tiles.{reply_changed, reply_rows, sents_of};
-ghost use Rattle.record_text.specs.Reading.{closes, givens_read, part_length};
-ghost use Rattle.record_text.specs.Giving.{rows_for};
+ghost use Rattle.record_text.specs.Scaffold.Reading.{closes, givens_read, part_length};
+ghost use Rattle.record_text.specs.Scaffold.Giving.{rows_for};
 
 use crate::entries::closes;
 use dp_messages::Reply;
@@ -197,7 +197,7 @@ fn given_of(
     entries: &[LogEntry],
 ) -> Result<Given, NoMemory>
     requires statement { IsStatement tables.now statement.now }
-    ensures { IfOk result (λ given. (r : Asker) → r.tables ≡ tables.now → sents.now ≡ sents_of (plan_of r statement.now) → given ≡ given_of r statement.now entries.now) }
+    ensures { IfOk result (λ given. (r : Asker) → r.tables ≡ tables.now → sents.now ≡ sents_of (plan_of r statement.now) → given ≡ part_gives r statement.now entries.now) }
 {
     match statement {
         Statement::Select { table, columns, .. } => Ok(Given::Rows {

@@ -1,6 +1,6 @@
 //! The records of the tables, by the rows that their partitions have at the end.
 ghost use Rattle.std.specs.Prelude.{◌≡◌, ◌++◌, IfOk, OnOk};
-ghost use Rattle.record_text.specs.Reading.{rows_joined, tables_read};
+ghost use Rattle.record_text.specs.Scaffold.Reading.{rows_joined, tables_read};
 
 use sql_base::{List, NoMemory, Row, TableDef};
 use std::alloc::Global;

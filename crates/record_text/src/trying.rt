@@ -4,7 +4,7 @@ ghost use Rattle.std.specs.List.{AllByRecursion};
 ghost use Rattle.sql_base.specs.Scripts.{IsScript};
 ghost use Rattle.sql_base.specs.Tables.{IsStatement};
 ghost use Rattle.session_grammar.specs.Follows.{asker};
-ghost use Rattle.record_text.specs.Reading.{behind_all, given_by, givens_read, sessions_read, shown_read, tries_read, works_read};
+ghost use Rattle.record_text.specs.Scaffold.Reading.{behind_all, given_by, givens_read, sessions_read, shown_read, tries_read, works_read};
 
 use crate::endings::{is_locked_out, outcome_of};
 use crate::entries::own_length;

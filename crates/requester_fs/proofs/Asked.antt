@@ -12,8 +12,8 @@ use Rattle.session_grammar.specs.declared.logs.Answer.{Answer}
 use Rattle.session_grammar.specs.declared.logs.LogEntry.{LogEntry}
 use Rattle.session_grammar.proofs.Readings.{follows-in_line}
 use Rattle.requester_fs.specs.Asking.{AreSendable, Asking, HasTaken, IsAsking, IsSendable, next_at}
-use Rattle.requester_fs.specs.Stages.{IsStage, statements_of, way_in, way_of}
-use Rattle.requester_fs.specs.Working.{IsWorking}
+use Rattle.requester_fs.specs.Scaffold.Stages.{IsStage, statements_of, way_in, way_of}
+use Rattle.requester_fs.specs.Scaffold.Working.{IsWorking}
 use Rattle.requester_fs.specs.declared.stages.Stage.{Stage}
 use Rattle.requester_fs.specs.declared.stages.Stage.TheVariants as stage
 use Rattle.requester_fs.specs.declared.stages.Stand.{Stand}

@@ -12,14 +12,14 @@ use Rattle.session_grammar.specs.UnderWay.{UnderWay}
 use Rattle.session_grammar.specs.declared.logs.Answer.{Answer}
 use Rattle.session_grammar.specs.declared.logs.LogEntry.{LogEntry}
 use Rattle.session_grammar.proofs.LogLists.{sync_behind-append}
-use Rattle.session_laws.specs.Leading.{StandsAt, next_behind, next_of}
-use Rattle.session_laws.specs.Machine.{At, Place, Trying, after, asking, task_at, works_at}
+use Rattle.session_laws.specs.Scaffold.Leading.{StandsAt, next_behind, next_of}
+use Rattle.session_laws.specs.Scaffold.Machine.{At, Place, Trying, after, asking, task_at, works_at}
 use Rattle.session_laws.proofs.Sessions.{session_of}
 use Rattle.session_laws.proofs.Standing.{goes_on}
 use Rattle.requester_fs.specs.Asking.{Advances, Asking, next_at, places_of}
 use Rattle.requester_fs.specs.Lasting.{answers_left, left_at}
-use Rattle.requester_fs.specs.Stages.{IsStage, IsStand, Stands, doing_of, place_of, statements_of, trying_of, way_in, way_of}
-use Rattle.requester_fs.specs.Working.{IsWorking, working}
+use Rattle.requester_fs.specs.Scaffold.Stages.{IsStage, IsStand, Stands, doing_of, place_of, statements_of, trying_of, way_in, way_of}
+use Rattle.requester_fs.specs.Scaffold.Working.{IsWorking, working}
 use Rattle.requester_fs.specs.declared.stages.Stage.{Stage}
 use Rattle.requester_fs.specs.declared.stages.Stage.TheVariants as stage
 use Rattle.requester_fs.specs.declared.stages.Stand.{Stand}

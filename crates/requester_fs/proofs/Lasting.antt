@@ -8,9 +8,9 @@ use Rattle.session_grammar.specs.Sessions.{MayCome}
 use Rattle.session_grammar.specs.declared.logs.Answer.{Answer}
 use Rattle.session_grammar.specs.declared.logs.Answer.TheVariants.{PathFailed, Reply, Stamp}
 use Rattle.session_grammar.specs.declared.logs.LogEntry.{LogEntry}
-use Rattle.session_laws.specs.Leading.{Leads, answer_of, next_of}
-use Rattle.session_laws.specs.Left.{is_redrive, is_repeat, left, spare_after, times}
-use Rattle.session_laws.specs.Machine.{Asks, At, Closes, Over, Place, Prepares, Stamps, after, task_at}
+use Rattle.session_laws.specs.Scaffold.Leading.{Leads, answer_of, next_of}
+use Rattle.session_laws.specs.Scaffold.Left.{is_redrive, is_repeat, left, spare_after, times}
+use Rattle.session_laws.specs.Scaffold.Machine.{Asks, At, Closes, Over, Place, Prepares, Stamps, after, task_at}
 use Rattle.session_laws.proofs.Lefts.{fewer}
 use Rattle.requester_fs.specs.Asking.{Advances, spare_of}
 use Rattle.requester_fs.specs.Lasting.{led, left_at, spare_at}

@@ -8,14 +8,14 @@ use Rattle.sql_base.specs.declared.scripts.Script.{Script}
 use Rattle.sql_base.specs.declared.scripts.Work.{Work}
 use Rattle.session_grammar.specs.Follows.{asker, works_of}
 use Rattle.session_grammar.specs.declared.logs.LogEntry.{LogEntry}
-use Rattle.session_laws.specs.Left.{times}
+use Rattle.session_laws.specs.Scaffold.Left.{times}
 use Rattle.session_laws.proofs.Ordinals.{few_attempts}
-use Rattle.requester_fs.specs.Stages.{AreWorks, IsIn, doing_of, statements_of, trying_of}
-use Rattle.requester_fs.specs.Working.{IsWorking}
+use Rattle.requester_fs.specs.Scaffold.Stages.{AreWorks, IsIn, doing_of, statements_of, trying_of}
+use Rattle.requester_fs.specs.Scaffold.Working.{IsWorking}
 use Rattle.requester_fs.specs.declared.stages.Stand.{Stand}
 use Rattle.requester_fs.specs.declared.walking.Planner.{Planner}
 use Rattle.requester_fs.proofs.Lists.{all_at}
-use Rattle.sql_base.proofs.Lists.{some-at}
+use Rattle.sql_base.proofs.ListFacts.{some-at}
 
 times_least : (n each : ℕ) → n ≤ times n (each + 1)
 times_least zero each = omega arith

@@ -35,10 +35,10 @@ use Rattle.ranges_laws.proofs.Pieces.{cut-is_pieces}
 use Rattle.ranges_laws.proofs.Ranges.{ranges_are_bounds}
 use Rattle.update_expressions.proofs.Differing.{few}
 use Rattle.session_grammar.specs.Follows.{asker}
-use Rattle.session_grammar.specs.Plans.{Asker, all_columns, begins, begins_in, filter_code, first_part, plan_of, plan_on, select_plan}
+use Rattle.session_grammar.specs.Plans.{Asker, all_columns, begin_pieces, begins_in, filter_code, first_part, plan_of, plan_on, select_plan}
 use Rattle.session_grammar.specs.declared.plans.Plan.TheVariants.{Singles, Subsets}
 use Rattle.session_grammar.specs.declared.plans.Sent.{Sent}
-use Rattle.session_laws.specs.Machine.{sents_of}
+use Rattle.session_laws.specs.Scaffold.Machine.{sents_of}
 use Rattle.requester_fs.proofs.Lists.{all_at}
 
 abbrev pub IsSpelledSent : Sent → Type 0
@@ -121,7 +121,7 @@ module _ (r : Asker) (table : TableDef) (is : IsTable table) where
       named = columns_distinct columns some
 
       by : (b : Bool) → AllByRecursion IsSpelledSent (sents_of (if b then Singles (record { part = first_part r place + part_of table whole.low; ask = ask.ReadKey access whole.low (filter_code predicate) columns } ∷ [])
-          else Subsets (begins r table place whole (λ granule piece. ask.BeginRead access granule piece (filter_code predicate) columns))))
+          else Subsets (begin_pieces r table place whole (λ granule piece. ask.BeginRead access granule piece (filter_code predicate) columns))))
       by true = ((key_short whole.low (ranges_are_bounds table predicate whole e).0.0, code, named), tt)
       by false = begins_spelled place (Some whole) predicate (λ granule piece. ask.BeginRead access granule piece (filter_code predicate) columns) e (λ granule piece short low high. (short, low, high, code, named))
 

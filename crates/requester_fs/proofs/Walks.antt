@@ -14,8 +14,8 @@ use Rattle.session_grammar.specs.Plans.{Asker, plan_of}
 use Rattle.session_grammar.specs.declared.plans.Plan.{Plan}
 use Rattle.session_grammar.specs.declared.plans.Plan.TheVariants.{Subsets}
 use Rattle.session_grammar.specs.declared.plans.Sent.{Sent}
-use Rattle.session_laws.specs.Machine.{Asks, At, Place, Trying, are_subsets, retried, sents_at, sents_of, statements_at, trying, works_at}
-use Rattle.requester_fs.specs.Stages.{AreSuited, IsStage, Stands, doing_of, plan_at, statements_of, trying_of, work_of}
+use Rattle.session_laws.specs.Scaffold.Machine.{Asks, At, Place, Trying, are_subsets, retried, sents_at, sents_of, statements_at, trying, works_at}
+use Rattle.requester_fs.specs.Scaffold.Stages.{AreSuited, IsStage, Stands, doing_of, plan_at, statements_of, trying_of, work_of}
 use Rattle.requester_fs.specs.declared.stages.Stage.{Stage}
 use Rattle.requester_fs.specs.declared.stages.Stand.{Stand}
 use Rattle.requester_fs.proofs.Lists.{all_at, drop_first, drop_none}

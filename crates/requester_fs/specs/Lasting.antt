@@ -3,9 +3,9 @@ use Rattle.std.specs.Prelude.{ℕ, List, [], ◌∷◌}
 use Rattle.session_grammar.specs.Follows.{asker, works_of}
 use Rattle.session_grammar.specs.Plans.{Asker}
 use Rattle.session_grammar.specs.declared.logs.LogEntry.{LogEntry}
-use Rattle.session_laws.specs.Leading.{answer_of}
-use Rattle.session_laws.specs.Left.{left}
-use Rattle.session_laws.specs.Machine.{Asks, At, Place, after, works_at}
+use Rattle.session_laws.specs.Scaffold.Leading.{answer_of}
+use Rattle.session_laws.specs.Scaffold.Left.{left}
+use Rattle.session_laws.specs.Scaffold.Machine.{Asks, At, Place, after, works_at}
 use Rattle.requester_fs.specs.Asking.{Asking, spare_of}
 
 -- the place where a log leads

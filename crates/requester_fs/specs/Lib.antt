@@ -1,4 +1,3 @@
 pub mod Asking
 pub mod Lasting
-pub mod Stages
-pub mod Working
+pub mod Scaffold

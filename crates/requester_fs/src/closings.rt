@@ -1,7 +1,7 @@
 //! The partitions that an attempt has sent something to.
 ghost use Rattle.std.specs.Prelude.{◌≡◌, IfOk, filter};
 ghost use Rattle.std.specs.List.{range_with_len};
-ghost use Rattle.session_laws.specs.Machine.{has_seen, see};
+ghost use Rattle.session_laws.specs.Scaffold.Machine.{has_seen, see};
 
 use sql_base::{List, NoMemory};
 use std::alloc::Global;

@@ -9,9 +9,9 @@ ghost use Rattle.session_grammar.specs.UnderWay.{Awaiting};
 ghost use Rattle.session_grammar.specs.declared.logs.Answer.TheVariants as came;
 ghost use Rattle.session_grammar.specs.declared.logs.LogEntry.{LogEntry as Entry};
 ghost use Rattle.requester_fs.specs.Asking.{Advances, HasTaken, IsAsking, IsSame, IsSpelled, next_at, places_of};
-ghost use Rattle.requester_fs.specs.Stages.{way_in};
+ghost use Rattle.requester_fs.specs.Scaffold.Stages.{way_in};
 ghost use Rattle.requester_fs.specs.Lasting.{answers_left};
-ghost use Rattle.requester_fs.specs.Working.{working};
+ghost use Rattle.requester_fs.specs.Scaffold.Working.{working};
 
 use crate::requesters::Requester;
 use crate::stages::{Stage, Stand};
@@ -46,8 +46,8 @@ impl<'a> Model for Session<'a> {
 
     ghost coded = { Prim.hlevel (codes, expr.the_row.coded) };
 
-    ghost use Rattle.requester_fs.specs.Stages.{way_of};
-    ghost use Rattle.requester_fs.specs.Working.{IsWorking};
+    ghost use Rattle.requester_fs.specs.Scaffold.Stages.{way_of};
+    ghost use Rattle.requester_fs.specs.Scaffold.Working.{IsWorking};
 
     ghost view = { λ s. record { script = s.script.now; number = s.number; log = s.log.items; way = way_of s.number s.sync s.stand } };
 

@@ -3,8 +3,8 @@ ghost use Rattle.std.specs.Prelude.{◌≡◌, ℕ, List, Some, IfOk};
 ghost use Rattle.sql_base.specs.declared.statements.Statement.{Statement};
 ghost use Rattle.dp_messages.specs.Spelling.{IsAsk};
 ghost use Rattle.session_grammar.specs.Plans.{Asker};
-ghost use Rattle.session_laws.specs.Machine.{At, Place, Trying, closes_at, prepares_at};
-ghost use Rattle.requester_fs.specs.Stages.{IsStage, MayBeStage, doing_of, placed};
+ghost use Rattle.session_laws.specs.Scaffold.Machine.{At, Place, Trying, closes_at, prepares_at};
+ghost use Rattle.requester_fs.specs.Scaffold.Stages.{IsStage, MayBeStage, doing_of, placed};
 
 use dp_messages::{Ask, Request};
 use sql_base::{List, NoMemory};

@@ -5,9 +5,9 @@ ghost use Rattle.dp_messages.specs.declared.requests.Ask.TheVariants as ask;
 ghost use Rattle.dp_messages.specs.declared.replies.Reply.TheVariants as reply;
 ghost use Rattle.session_grammar.specs.Plans.{Asker};
 ghost use Rattle.session_grammar.specs.declared.logs.Answer.TheVariants as came;
-ghost use Rattle.session_laws.specs.Machine.{Trying, after, after_ask, after_prepare, after_reply, after_stamp, behind, next, redriven, repeated, retried, see, statements_at, undone, went_on};
+ghost use Rattle.session_laws.specs.Scaffold.Machine.{Trying, after, after_ask, after_prepare, after_reply, after_stamp, behind, next, redriven, repeated, retried, see, statements_at, undone, went_on};
 ghost use Rattle.requester_fs.specs.Asking.{IsSpelled};
-ghost use Rattle.requester_fs.specs.Stages.{IsIn, IsStage, MayBeStage, Stands, placed, sents_behind, statements_behind, statements_of, stood, trying_of};
+ghost use Rattle.requester_fs.specs.Scaffold.Stages.{IsIn, IsStage, MayBeStage, Stands, placed, sents_behind, statements_behind, statements_of, stood, trying_of};
 ghost use Rattle.requester_fs.specs.declared.stages.Stage.TheVariants as stage;
 
 use crate::closings::{in_order, see};

@@ -15,7 +15,7 @@ use Rattle.session_grammar.proofs.LogLists.{one_of}
 use Rattle.session_grammar.proofs.ScanReadings.{only_reading}
 use Rattle.session_grammar.specs.Follows.{ArePrepares, AreTries, Attempt, IsAttempt, IsEnding, IsPart, IsSingle, Reads, entries_of, greatest_of, joined, asker, works_of}
 use Rattle.session_grammar.specs.Plans.{Asker}
-use Rattle.session_grammar.specs.Rows.{IsAsked, IsRow}
+use Rattle.session_grammar.specs.Rows.{IsAsked, IsExchange}
 use Rattle.session_grammar.specs.declared.logs.Answer.{Answer}
 use Rattle.session_grammar.specs.declared.logs.Answer.TheVariants.{Reply, PathFailed, Stamp}
 use Rattle.session_grammar.specs.declared.logs.LogEntry.{LogEntry}
@@ -36,7 +36,7 @@ abbrev its_ending : List LogEntry
 its_ending = asked 2 ask.Prepare (reply.Floor 0) ∷ Drew (name 2) 0 (Stamp 1) ∷ asked 3 (ask.EndCommit 1) reply.Done ∷ []
 
 -- the row of a request that was done is one entry
-row_is : (patience part : ℕ) (request : Request) (answer : Answer) (row rest : List LogEntry) → row ++ rest ≡ inserted ∷ its_ending → IsRow patience part request row answer → row ≡ inserted ∷ []
+row_is : (patience part : ℕ) (request : Request) (answer : Answer) (row rest : List LogEntry) → row ++ rest ≡ inserted ∷ its_ending → IsExchange patience part request row answer → row ≡ inserted ∷ []
 row_is patience part request answer [] rest is h = absurd h
 row_is patience part request answer (e ∷ []) rest is h = let first : e ≡ inserted = cc in cc
 row_is zero part request answer (e ∷ f ∷ es) rest is h = absurd h

@@ -54,16 +54,16 @@ abbrev pub part_rows : Asker → Statement → List LogEntry → List (List ℕ)
 part_rows r statement part = flat_map (λ sent. flat_map entry_rows (projection part sent)) (sents_of (plan_of r statement))
 
 -- what the part of a finished statement gives
-abbrev pub given_of : Asker → Statement → List LogEntry → Given
-given_of r (Select t columns predicate access) part =
+abbrev pub part_gives : Asker → Statement → List LogEntry → Given
+part_gives r (Select t columns predicate access) part =
     Rows (unwrap_or (option_map (λ table. chosen columns (kinds table)) (slice_get r.tables t)) []) (part_rows r (Select t columns predicate access) part)
-given_of r (Update t sets predicate access) part = Count (sum (map entry_changed part))
-given_of r (Delete t predicate access) part = Count (sum (map entry_changed part))
-given_of r (Insert t row) part = Silent
-given_of r (LockTable t mode) part = Silent
+part_gives r (Update t sets predicate access) part = Count (sum (map entry_changed part))
+part_gives r (Delete t predicate access) part = Count (sum (map entry_changed part))
+part_gives r (Insert t row) part = Silent
+part_gives r (LockTable t mode) part = Silent
 
 abbrev pub givens_of : Asker → List Statement → List (List LogEntry) → List Given
-givens_of r (statement ∷ statements) (part ∷ parts) = given_of r statement part ∷ givens_of r statements parts
+givens_of r (statement ∷ statements) (part ∷ parts) = part_gives r statement part ∷ givens_of r statements parts
 givens_of r (statement ∷ statements) [] = []
 givens_of r [] parts = []
 

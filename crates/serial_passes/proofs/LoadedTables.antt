@@ -23,7 +23,7 @@ use Rattle.run_record.specs.Openings.{openings, openings_from, rows_in_part}
 use Rattle.serial_laws.proofs.Opened.{load-records}
 use Rattle.serial_passes.proofs.Givings.{part_within}
 use Rattle.serial_passes.proofs.Placings.{parts_in_order}
-use Rattle.sql_base.proofs.Lists.{range-length}
+use Rattle.sql_base.proofs.ListFacts.{range-length}
 
 -- the records of these partitions
 abbrev pub opened_views : List State → List (List Keyed)

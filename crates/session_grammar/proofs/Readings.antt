@@ -14,13 +14,13 @@ use Rattle.session_grammar.specs.declared.logs.Answer.{Answer}
 use Rattle.session_grammar.specs.declared.logs.Answer.TheVariants.{Reply}
 use Rattle.session_grammar.specs.declared.logs.LogEntry.{LogEntry}
 use Rattle.session_grammar.specs.declared.logs.LogEntry.TheVariants.{Asked, Drew}
-use Rattle.session_grammar.specs.Follows.{AfterRow, AreAttempts, AreEnds, ArePrepares, AreRows, AreTries, Attempt, Follows, FollowsInLine, InLineBy, InTurn, IsAttempt}
+use Rattle.session_grammar.specs.Follows.{AfterRow, AreAttempts, AreEnds, ArePrepares, AreExchanges, AreTries, Attempt, Follows, FollowsInLine, InLineBy, InTurn, IsAttempt}
 use Rattle.session_grammar.specs.Follows.{IsInLine, IsList, IsPart, IsSingle, Reads, WideBy, joined}
 use Rattle.session_grammar.specs.Plans.{Asker, plan_of}
 use Rattle.session_grammar.specs.declared.plans.Plan.{Plan}
 use Rattle.session_grammar.specs.declared.plans.Plan.TheVariants.{Singles, Subsets}
 use Rattle.session_grammar.specs.declared.plans.Sent.{Sent}
-use Rattle.session_grammar.specs.Rows.{IsAsked, IsRow, is_for}
+use Rattle.session_grammar.specs.Rows.{IsAsked, IsExchange, is_for}
 
 -- what is in turn by one relation is so by each that it implies
 in_turn_by : {A : Type 0} (R S : A → List LogEntry → Option Abort → Type 0) → ((x : A) (list : List LogEntry) (end : Option Abort) → R x list end → S x list end)
@@ -79,7 +79,7 @@ asked-entry part request answer (Asked p s q l a) h = tt
 asked-entry part request answer (Drew n f a) h = absurd h
 
 -- a row draws nothing
-row-asked : (n part : ℕ) (request : Request) (row : List LogEntry) (answer : Answer) → IsRow n part request row answer → AreAsked row
+row-asked : (n part : ℕ) (request : Request) (row : List LogEntry) (answer : Answer) → IsExchange n part request row answer → AreAsked row
 row-asked n part request [] answer h = absurd h
 row-asked n part request (e ∷ []) answer h = (asked-entry part request answer e h.0, tt)
 row-asked zero part request (e ∷ f ∷ es) answer h = absurd h
@@ -113,11 +113,11 @@ all-for-asked sents (e ∷ es) h = (for-asked sents e h.0, all-for-asked sents e
 
 module _ (r : Asker) (ordinal : ℕ) where
   -- the rows of a subset draw nothing
-  rows-asked : (part : ℕ) (ask : Ask) (rows : List (List LogEntry)) (end : Option Abort) → AreRows r ordinal part ask rows end → AreAsked (joined rows)
+  rows-asked : (part : ℕ) (ask : Ask) (rows : List (List LogEntry)) (end : Option Abort) → AreExchanges r ordinal part ask rows end → AreAsked (joined rows)
   rows-asked part ask [] end h = absurd h
   rows-asked part ask (row ∷ rows) end h =
       let row_is = row-asked r.limits.patience part (record { ordinal = ordinal; ask = ask }) row h.0 h.1 in
-      let goes_on = λ (subset : ℕ) (last : List ℕ). AreRows r ordinal part (Continue subset last) rows end in
+      let goes_on = λ (subset : ℕ) (last : List ℕ). AreExchanges r ordinal part (Continue subset last) rows end in
       asked-append row (joined rows) row_is (behind-asked h.0 goes_on rows end h.2 (λ subset last more. rows-asked part (Continue subset last) rows end more))
 
   -- lists in turn draw nothing, where each of them doesn't

@@ -21,7 +21,7 @@ use Rattle.session_grammar.specs.Plans.{Asker, plan_of}
 use Rattle.session_grammar.specs.declared.plans.Plan.{Plan}
 use Rattle.session_grammar.specs.declared.plans.Plan.TheVariants.{Singles, Subsets}
 use Rattle.session_grammar.specs.declared.plans.Sent.{Sent}
-use Rattle.session_grammar.specs.Rows.{IsAsked, IsRow, failure, is_for}
+use Rattle.session_grammar.specs.Rows.{IsAsked, IsExchange, failure, is_for}
 
 -- the list of a subset: a row of its Begin, and after each redrive a row of the Continue that it names, until Ended or a row that fails
 abbrev pub AfterRow : Answer → (ℕ → List ℕ → Type 0) → List (List LogEntry) → Option Abort → Type 0
@@ -29,22 +29,22 @@ AfterRow (Reply (reply.Redrive subset last cause rows changed)) goes_on rest end
 AfterRow (Reply (reply.Ended rows changed)) goes_on rest end = (rest ≡ []) × (end ≡ None)
 AfterRow answer goes_on rest end = (rest ≡ []) × IsSome (failure answer) × (end ≡ failure answer)
 
-abbrev pub AreRows : Asker → ℕ → ℕ → Ask → List (List LogEntry) → Option Abort → Type 0
-AreRows r ordinal part ask [] end = ⊥
-AreRows r ordinal part ask (row ∷ rows) end =
-    (answer : Answer) × IsRow r.limits.patience part (record { ordinal = ordinal; ask = ask }) row answer
-    × AfterRow answer (λ subset last. AreRows r ordinal part (Continue subset last) rows end) rows end
+abbrev pub AreExchanges : Asker → ℕ → ℕ → Ask → List (List LogEntry) → Option Abort → Type 0
+AreExchanges r ordinal part ask [] end = ⊥
+AreExchanges r ordinal part ask (row ∷ rows) end =
+    (answer : Answer) × IsExchange r.limits.patience part (record { ordinal = ordinal; ask = ask }) row answer
+    × AfterRow answer (λ subset last. AreExchanges r ordinal part (Continue subset last) rows end) rows end
 
 abbrev pub joined : List (List LogEntry) → List LogEntry
 joined lists = flat_map (λ list. list) lists
 
 abbrev pub IsList : Asker → ℕ → Sent → List LogEntry → Option Abort → Type 0
-IsList r ordinal sent entries end = (rows : List (List LogEntry)) × (entries ≡ joined rows) × AreRows r ordinal sent.part sent.ask rows end
+IsList r ordinal sent entries end = (rows : List (List LogEntry)) × (entries ≡ joined rows) × AreExchanges r ordinal sent.part sent.ask rows end
 
 -- one row of a request that isn't a subset's
 abbrev pub IsSingle : Asker → ℕ → Sent → List LogEntry → Option Abort → Type 0
 IsSingle r ordinal sent entries end =
-    (answer : Answer) × IsRow r.limits.patience sent.part (record { ordinal = ordinal; ask = sent.ask }) entries answer × (end ≡ failure answer)
+    (answer : Answer) × IsExchange r.limits.patience sent.part (record { ordinal = ordinal; ask = sent.ask }) entries answer × (end ≡ failure answer)
 
 -- one list for each thing, whole up to the first that fails, behind which there is none
 abbrev pub InTurn : {A : Type 0} → (A → List LogEntry → Option Abort → Type 0) → List A → List (List LogEntry) → Option Abort → Type 0

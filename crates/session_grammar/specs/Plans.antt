@@ -37,13 +37,13 @@ abbrev pub filter_code : Option Expr → Option (List ℕ)
 filter_code filter = option_map code_of filter
 
 -- the Begin of each piece of a range; the granule is the common prefix of the statement's bounds
-abbrev pub begins : Asker → TableDef → ℕ → KeyRange → (List ℕ → KeyRange → Ask) → List Sent
-begins r table place range begin =
+abbrev pub begin_pieces : Asker → TableDef → ℕ → KeyRange → (List ℕ → KeyRange → Ask) → List Sent
+begin_pieces r table place range begin =
     map (λ piece. record { part = first_part r place + piece.part; ask = begin (common_prefix range.low range.high) piece.range }) (cut table range)
 
 abbrev pub begins_in : Asker → TableDef → ℕ → Option KeyRange → (List ℕ → KeyRange → Ask) → List Sent
 begins_in r table place None begin = []
-begins_in r table place (Some range) begin = begins r table place range begin
+begins_in r table place (Some range) begin = begin_pieces r table place range begin
 
 -- a SELECT of one whole key reads it; any other takes the pieces
 abbrev pub select_plan : Asker → TableDef → ℕ → Access → Option Expr → List ℕ → Option KeyRange → Plan
@@ -51,7 +51,7 @@ select_plan r table place access predicate columns None = Subsets []
 select_plan r table place access predicate columns (Some range) =
     if key_eq range.low range.high
     then Singles (record { part = first_part r place + part_of table range.low; ask = ask.ReadKey access range.low (filter_code predicate) columns } ∷ [])
-    else Subsets (begins r table place range (λ granule piece. ask.BeginRead access granule piece (filter_code predicate) columns))
+    else Subsets (begin_pieces r table place range (λ granule piece. ask.BeginRead access granule piece (filter_code predicate) columns))
 
 abbrev pub all_columns : List Value → List ℕ
 all_columns row = range_with_len 0 (length row)

@@ -82,11 +82,11 @@ is_locked (Reply (reply.Locked lock)) = true
 is_locked answer = false
 
 -- the row of a request: at most `patience` entries answered Locked, then one with this answer, which is Locked only behind just so many
-abbrev pub IsRow : ℕ → ℕ → Request → List LogEntry → Answer → Type 0
-IsRow patience part request [] answer = ⊥
-IsRow patience part request (e ∷ []) answer = IsAsked part request answer e × (is_locked answer ≡ true → patience ≡ 0)
-IsRow zero part request (e ∷ f ∷ es) answer = ⊥
-IsRow (suc patience) part request (e ∷ f ∷ es) answer = ((lock : Lock) × IsAsked part request (Reply (reply.Locked lock)) e) × IsRow patience part request (f ∷ es) answer
+abbrev pub IsExchange : ℕ → ℕ → Request → List LogEntry → Answer → Type 0
+IsExchange patience part request [] answer = ⊥
+IsExchange patience part request (e ∷ []) answer = IsAsked part request answer e × (is_locked answer ≡ true → patience ≡ 0)
+IsExchange zero part request (e ∷ f ∷ es) answer = ⊥
+IsExchange (suc patience) part request (e ∷ f ∷ es) answer = ((lock : Lock) × IsAsked part request (Reply (reply.Locked lock)) e) × IsExchange patience part request (f ∷ es) answer
 
 -- how the last answer of a row fails its attempt, if it does
 abbrev pub failure : Answer → Option Abort

@@ -12,7 +12,7 @@ use Rattle.session_grammar.specs.Plans.{Asker, plan_of}
 use Rattle.session_grammar.specs.declared.plans.Plan.{Plan}
 use Rattle.session_grammar.specs.declared.plans.Plan.TheVariants.{Singles, Subsets}
 use Rattle.session_grammar.specs.declared.plans.Sent.{Sent}
-use Rattle.session_laws.specs.Machine.{are_subsets, sents_of}
+use Rattle.session_laws.specs.Scaffold.Machine.{are_subsets, sents_of}
 use Rattle.session_laws.proofs.Loose.{IsLoose, in_line_loose, wide_loose}
 use Rattle.session_laws.proofs.LooseSame.{Then, loose_same}
 use Rattle.session_laws.proofs.Plans.{Suits, plans_suit}

@@ -10,12 +10,12 @@ use Rattle.dp_messages.specs.declared.requests.Ask.TheVariants.{Continue}
 use Rattle.session_grammar.specs.declared.logs.Answer.{Answer}
 use Rattle.session_grammar.specs.declared.logs.Answer.TheVariants.{Reply, PathFailed, Stamp}
 use Rattle.session_grammar.specs.declared.logs.LogEntry.{LogEntry}
-use Rattle.session_grammar.specs.Follows.{AfterRow, AreRows, IsList, IsSingle, joined}
+use Rattle.session_grammar.specs.Follows.{AfterRow, AreExchanges, IsList, IsSingle, joined}
 use Rattle.session_grammar.specs.Plans.{Asker}
 use Rattle.session_grammar.specs.declared.plans.Sent.{Sent}
-use Rattle.session_grammar.specs.Rows.{IsAsked, IsRow, failure, is_locked}
-use Rattle.session_laws.specs.Machine.{Asks, At, Place, Trying, after_ask, asking, see, undone, went_on}
-use Rattle.session_laws.specs.Leading.{Leads}
+use Rattle.session_grammar.specs.Rows.{IsAsked, IsExchange, failure, is_locked}
+use Rattle.session_laws.specs.Scaffold.Machine.{Asks, At, Place, Trying, after_ask, asking, see, undone, went_on}
+use Rattle.session_laws.specs.Scaffold.Leading.{Leads}
 use Rattle.session_laws.proofs.Leading.{Leads-append, asked_does, walk, walk-append}
 
 abbrev pub is_lock : Abort → Bool
@@ -46,7 +46,7 @@ module _ (r : Asker) (t : Trying) (sents : List Sent) (statements : List Stateme
       (d.0, ap (λ a. led (see part seen) subset part ask n a) d.1 ∙ ap (λ s. led s subset part ask n answer) (sym (d.2 seen)))
 
   -- a row leads where its last answer leads, with so many repeats left
-  row_leads : (seen : List ℕ) (subset : Bool) (part : ℕ) (ask : Ask) (n : ℕ) (row : List LogEntry) (answer : Answer) → IsRow n part (asking t.ordinal ask) row answer
+  row_leads : (seen : List ℕ) (subset : Bool) (part : ℕ) (ask : Ask) (n : ℕ) (row : List LogEntry) (answer : Answer) → IsExchange n part (asking t.ordinal ask) row answer
       → (k : ℕ) × (is_locked answer ≡ true → k ≡ 0) × Leads r (asks seen subset part ask n) row (led (walk seen row) subset part ask k answer)
   row_leads seen subset part ask n [] answer h = absurd h
   row_leads seen subset part ask n (e ∷ []) answer h = (n, h.1, one_leads seen subset part ask n answer e h.0)
@@ -89,8 +89,8 @@ module _ (r : Asker) (t : Trying) (sents : List Sent) (statements : List Stateme
 
   -- behind the row of a subset come the rows of its Continue, or the list ends
   rows_behind : (seen : List ℕ) (part : ℕ) (ask : Ask) (k : ℕ) (answer : Answer) (rows : List (List LogEntry)) (end : Option Abort) → (is_locked answer ≡ true → k ≡ 0)
-      → AfterRow answer (λ subset last. AreRows r t.ordinal part (Continue subset last) rows end) rows end
-      → ((subset : ℕ) (last : List ℕ) → AreRows r t.ordinal part (Continue subset last) rows end
+      → AfterRow answer (λ subset last. AreExchanges r t.ordinal part (Continue subset last) rows end) rows end
+      → ((subset : ℕ) (last : List ℕ) → AreExchanges r t.ordinal part (Continue subset last) rows end
       → Leads r (asks seen true part (Continue subset last) r.limits.patience) (joined rows) (list_out (walk seen (joined rows)) true end))
       → Leads r (led seen true part ask k answer) (joined rows) (list_out (walk seen (joined rows)) true end)
   rows_behind seen part ask k (Reply (reply.Redrive subset last cause out changed)) rows end zero_is h more = more subset last h
@@ -105,7 +105,7 @@ module _ (r : Asker) (t : Trying) (sents : List Sent) (statements : List Stateme
       ended None e some = absurd (cc some)
       ended (Some abort) e some = failed_out seen true part ask k answer abort zero_is e
 
-  rows_lead : (seen : List ℕ) (part : ℕ) (ask : Ask) (rows : List (List LogEntry)) (end : Option Abort) → AreRows r t.ordinal part ask rows end
+  rows_lead : (seen : List ℕ) (part : ℕ) (ask : Ask) (rows : List (List LogEntry)) (end : Option Abort) → AreExchanges r t.ordinal part ask rows end
       → Leads r (asks seen true part ask r.limits.patience) (joined rows) (list_out (walk seen (joined rows)) true end)
   rows_lead seen part ask [] end h = absurd h
   rows_lead seen part ask (row ∷ rows) end h =

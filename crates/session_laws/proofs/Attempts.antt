@@ -16,8 +16,8 @@ use Rattle.session_grammar.specs.declared.logs.LogEntry.{LogEntry}
 use Rattle.session_grammar.specs.declared.logs.LogEntry.TheVariants.{Drew}
 use Rattle.session_grammar.specs.Follows.{AreAttempts, AreEnds, ArePrepares, AreTries, Attempt, IsAttempt, IsEnding, IsInLine, entries_of, greatest_of, joined, touched}
 use Rattle.session_grammar.specs.Plans.{Asker}
-use Rattle.session_laws.specs.Machine.{At, Over, Place, Prepares, Stamps, Trying, after_prepare, asking, behind, closes_at, closing, in_order, next, prepares_at, Send, statements_at, trying, undone, works_at}
-use Rattle.session_laws.specs.Leading.{Does, Leads}
+use Rattle.session_laws.specs.Scaffold.Machine.{At, Over, Place, Prepares, Stamps, Trying, after_prepare, asking, behind, closes_at, closing, in_order, next, prepares_at, Send, statements_at, trying, undone, works_at}
+use Rattle.session_laws.specs.Scaffold.Leading.{Does, Leads}
 use Rattle.session_laws.proofs.Asking.{is_lock}
 use Rattle.session_laws.proofs.Leading.{Leads-append, asked_does, walk}
 use Rattle.session_laws.proofs.Parts.{parts_lead, parts_out}

@@ -15,8 +15,8 @@ use Rattle.session_grammar.specs.Follows.{CountSyncs}
 use Rattle.session_grammar.specs.Plans.{Asker, plan_of}
 use Rattle.session_grammar.specs.declared.plans.Sent.{Sent}
 use Rattle.session_grammar.specs.Rows.{IsSent}
-use Rattle.session_laws.specs.Machine.{Asks, At, Closes, Draw, Over, Place, Prepares, Send, Stamps, Trying, after, are_subsets, asking, behind, closes_at, closing, in_order, next, prepares_at, see, sents_of, statements_at, task_at, trying, went_on, works_at}
-use Rattle.session_laws.specs.Leading.{Does, Leads}
+use Rattle.session_laws.specs.Scaffold.Machine.{Asks, At, Closes, Draw, Over, Place, Prepares, Send, Stamps, Trying, after, are_subsets, asking, behind, closes_at, closing, in_order, next, prepares_at, see, sents_of, statements_at, task_at, trying, went_on, works_at}
+use Rattle.session_laws.specs.Scaffold.Leading.{Does, Leads}
 
 module _ (r : Asker) where
   pub record CanEnd (sync : ℕ) (p : Place) : Type 0 where

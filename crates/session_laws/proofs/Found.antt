@@ -6,8 +6,8 @@ use Rattle.sql_base.specs.declared.outcomes.Abort.{Abort}
 use Rattle.session_grammar.specs.declared.logs.LogEntry.{LogEntry}
 use Rattle.session_grammar.specs.Follows.{InTurn, joined}
 use Rattle.session_grammar.specs.Plans.{Asker}
-use Rattle.session_laws.specs.Machine.{Over, Place}
-use Rattle.session_laws.specs.Leading.{Leads}
+use Rattle.session_laws.specs.Scaffold.Machine.{Over, Place}
+use Rattle.session_laws.specs.Scaffold.Leading.{Leads}
 use Rattle.session_laws.proofs.Leading.{walk, walk-append}
 
 -- the front, its end, and the rest, which leads on from where the end leads

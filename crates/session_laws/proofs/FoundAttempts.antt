@@ -11,8 +11,8 @@ use Rattle.sql_base.specs.declared.scripts.Work.{Work}
 use Rattle.session_grammar.specs.declared.logs.LogEntry.{LogEntry}
 use Rattle.session_grammar.specs.Follows.{AreAttempts, AreTries, Attempt, IsAttempt, IsInLine, entries_of, joined, touched}
 use Rattle.session_grammar.specs.Plans.{Asker}
-use Rattle.session_laws.specs.Machine.{Over, Place, Trying, behind, in_order, trying, works_at}
-use Rattle.session_laws.specs.Leading.{Leads}
+use Rattle.session_laws.specs.Scaffold.Machine.{Over, Place, Trying, behind, in_order, trying, works_at}
+use Rattle.session_laws.specs.Scaffold.Leading.{Leads}
 use Rattle.session_laws.proofs.Attempts.{is_lock_end, try_at}
 use Rattle.session_laws.proofs.Found.{Cut, Turns}
 use Rattle.session_laws.proofs.FoundEndings.{Ending, attempt, ending_found, from}

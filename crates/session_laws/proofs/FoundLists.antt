@@ -14,19 +14,19 @@ use Rattle.session_grammar.specs.declared.logs.Answer.{Answer}
 use Rattle.session_grammar.specs.declared.logs.Answer.TheVariants.{Reply, PathFailed, Stamp}
 use Rattle.session_grammar.specs.declared.logs.LogEntry.{LogEntry}
 use Rattle.session_grammar.specs.declared.logs.LogEntry.TheVariants.{Asked, Drew}
-use Rattle.session_grammar.specs.Follows.{AfterRow, AreRows, joined}
+use Rattle.session_grammar.specs.Follows.{AfterRow, AreExchanges, joined}
 use Rattle.session_grammar.specs.Plans.{Asker}
 use Rattle.session_grammar.specs.declared.plans.Sent.{Sent}
-use Rattle.session_grammar.specs.Rows.{IsAsked, IsRow, IsSent, failure, fits, fits_subset, is_locked}
-use Rattle.session_laws.specs.Machine.{Over, Place, Trying, after_ask, asking, see}
-use Rattle.session_laws.specs.Leading.{Leads, answer_of}
+use Rattle.session_grammar.specs.Rows.{IsAsked, IsExchange, IsSent, failure, fits, fits_subset, is_locked}
+use Rattle.session_laws.specs.Scaffold.Machine.{Over, Place, Trying, after_ask, asking, see}
+use Rattle.session_laws.specs.Scaffold.Leading.{Leads, answer_of}
 use Rattle.session_laws.proofs.Asking.{ListBy, asks, list_out, single_out}
 use Rattle.session_laws.proofs.Found.{Cut}
 use Rattle.session_laws.proofs.Leading.{does_asked, walk, walk-append}
 use Rattle.session_laws.proofs.Plans.{Suits}
 
 repeat_row : (n part : ℕ) (request : Request) (lock : Lock) (answer : Answer) (e : LogEntry) (row : List LogEntry)
-    → IsAsked part request (Reply (reply.Locked lock)) e → IsRow n part request row answer → IsRow (suc n) part request (e ∷ row) answer
+    → IsAsked part request (Reply (reply.Locked lock)) e → IsExchange n part request row answer → IsExchange (suc n) part request (e ∷ row) answer
 repeat_row n part request lock answer e [] h rest = absurd rest
 repeat_row n part request lock answer e (f ∷ fs) h rest = ((lock, h), rest)
 
@@ -51,15 +51,15 @@ module _ (r : Asker) (t : Trying) (sents : List Sent) (statements : List Stateme
 
   -- the rest of a single request's row, and of a subset's rows, with so many repeats left
   abbrev SingleFrom : ℕ → ℕ → Ask → List LogEntry → Option Abort → Type 0
-  SingleFrom n part ask front end = (answer : Answer) × IsRow n part (asking t.ordinal ask) front answer × (end ≡ failure answer)
+  SingleFrom n part ask front end = (answer : Answer) × IsExchange n part (asking t.ordinal ask) front answer × (end ≡ failure answer)
 
   record RowsFrom (n part : ℕ) (ask : Ask) (front : List LogEntry) (end : Option Abort) : Type 0 where
     row : List LogEntry
     rows : List (List LogEntry)
     answer : Answer
     are : front ≡ row ++ joined rows
-    is_row : IsRow n part (asking t.ordinal ask) row answer
-    goes_on : AfterRow answer (λ subset last. AreRows r t.ordinal part (Continue subset last) rows end) rows end
+    is_row : IsExchange n part (asking t.ordinal ask) row answer
+    goes_on : AfterRow answer (λ subset last. AreExchanges r t.ordinal part (Continue subset last) rows end) rows end
 
   single_step : (n part : ℕ) (ask : Ask) (seen : List ℕ) (answer : Answer) (e : LogEntry) (es : List LogEntry) → IsAsked part (asking t.ordinal ask) answer e → walk seen (e ∷ []) ≡ see part seen
       → Leads r (led (see part seen) false part ask n answer) es Over

@@ -6,8 +6,8 @@ use Rattle.session_grammar.specs.declared.logs.LogEntry.{LogEntry}
 use Rattle.session_grammar.specs.declared.logs.LogEntry.TheVariants.{Asked, Drew}
 use Rattle.session_grammar.specs.Plans.{Asker}
 use Rattle.session_grammar.specs.Rows.{IsAsked, IsSent}
-use Rattle.session_laws.specs.Machine.{Over, Place, Send, after, see}
-use Rattle.session_laws.specs.Leading.{Does, Leads, answer_of}
+use Rattle.session_laws.specs.Scaffold.Machine.{Over, Place, Send, after, see}
+use Rattle.session_laws.specs.Scaffold.Leading.{Does, Leads, answer_of}
 
 module _ (r : Asker) where
   -- a log leads as far as its parts lead one after the other

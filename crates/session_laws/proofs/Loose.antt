@@ -14,10 +14,10 @@ use Rattle.session_grammar.specs.declared.logs.Answer.{Answer}
 use Rattle.session_grammar.specs.declared.logs.Answer.TheVariants.{Reply}
 use Rattle.session_grammar.specs.declared.logs.LogEntry.{LogEntry}
 use Rattle.session_grammar.specs.declared.logs.LogEntry.TheVariants.{Asked, Drew}
-use Rattle.session_grammar.specs.Follows.{AfterRow, AreBegun, AreRows, AreTheirs, AreWide, InTurn, IsList, Together, joined, projection}
+use Rattle.session_grammar.specs.Follows.{AfterRow, AreBegun, AreExchanges, AreTheirs, AreWide, InTurn, IsList, Together, joined, projection}
 use Rattle.session_grammar.specs.Plans.{Asker}
 use Rattle.session_grammar.specs.declared.plans.Sent.{Sent}
-use Rattle.session_grammar.specs.Rows.{IsAsked, IsRow, is_end, is_for}
+use Rattle.session_grammar.specs.Rows.{IsAsked, IsExchange, is_end, is_for}
 use Rattle.session_laws.proofs.Plans.{Suits}
 use Rattle.session_laws.proofs.Within.{Rise}
 
@@ -42,7 +42,7 @@ asked_work : (part : ℕ) (request : Request) (answer : Answer) (e : LogEntry) �
 asked_work part request answer (Asked p s q l a) none h = (h.0, ap (λ (x : Request). is_end x.ask) h.1 ∙ none)
 asked_work part request answer (Drew n f a) none h = absurd h
 
-row_work : (n part : ℕ) (request : Request) (row : List LogEntry) (answer : Answer) → is_end request.ask ≡ false → IsRow n part request row answer → AllByRecursion (IsWork part) row × (row ≢ [])
+row_work : (n part : ℕ) (request : Request) (row : List LogEntry) (answer : Answer) → is_end request.ask ≡ false → IsExchange n part request row answer → AllByRecursion (IsWork part) row × (row ≢ [])
 row_work n part request [] answer none h = absurd h
 row_work n part request (e ∷ []) answer none h = ((asked_work part request answer e none h.0, tt), λ is. absurd (cc is))
 row_work zero part request (e ∷ f ∷ es) answer none h = absurd h
@@ -62,13 +62,13 @@ module _ (r : Asker) (ordinal : ℕ) where
   none_work : (part : ℕ) (rows : List (List LogEntry)) → rows ≡ [] → AllByRecursion (IsWork part) (joined rows)
   none_work part rows is = subst (λ (x : List (List LogEntry)). AllByRecursion (IsWork part) (joined x)) (sym is) tt
 
-  after_work : (part : ℕ) (answer : Answer) (rows : List (List LogEntry)) (end : Option Abort) → AfterRow answer (λ subset last. AreRows r ordinal part (Continue subset last) rows end) rows end
-      → ((subset : ℕ) (last : List ℕ) → AreRows r ordinal part (Continue subset last) rows end → AllByRecursion (IsWork part) (joined rows)) → AllByRecursion (IsWork part) (joined rows)
+  after_work : (part : ℕ) (answer : Answer) (rows : List (List LogEntry)) (end : Option Abort) → AfterRow answer (λ subset last. AreExchanges r ordinal part (Continue subset last) rows end) rows end
+      → ((subset : ℕ) (last : List ℕ) → AreExchanges r ordinal part (Continue subset last) rows end → AllByRecursion (IsWork part) (joined rows)) → AllByRecursion (IsWork part) (joined rows)
   after_work part (Reply (reply.Redrive subset last cause out changed)) rows end h more = more subset last h
   after_work part (Reply (reply.Ended out changed)) rows end h more = none_work part rows h.0
   after_work part answer rows end h more = none_work part rows h.0
 
-  rows_work : (part : ℕ) (ask : Ask) (rows : List (List LogEntry)) (end : Option Abort) → is_end ask ≡ false → AreRows r ordinal part ask rows end → AllByRecursion (IsWork part) (joined rows) × (joined rows ≢ [])
+  rows_work : (part : ℕ) (ask : Ask) (rows : List (List LogEntry)) (end : Option Abort) → is_end ask ≡ false → AreExchanges r ordinal part ask rows end → AllByRecursion (IsWork part) (joined rows) × (joined rows ≢ [])
   rows_work part ask [] end none h = absurd h
   rows_work part ask (row ∷ rows) end none h =
       let first = row_work r.limits.patience part (record { ordinal = ordinal; ask = ask }) row h.0 none h.1 in

@@ -12,9 +12,9 @@ use Rattle.session_grammar.specs.declared.logs.Answer.TheVariants.{Reply, PathFa
 use Rattle.session_grammar.specs.declared.logs.LogEntry.{LogEntry}
 use Rattle.session_grammar.specs.Plans.{Asker, plan_of}
 use Rattle.session_grammar.specs.declared.plans.Sent.{Sent}
-use Rattle.session_laws.specs.Machine.{Asks, At, Closes, Doing, Over, Place, Prepares, Stamps, Trying, after, after_reply, are_subsets, behind, closes_at, closing, in_order, next, prepares_at, see, sents_at, sents_of, statements_at, trying, undone, went_on, works_at}
-use Rattle.session_laws.specs.Leading.{Leads, StandsAt, answer_of}
-use Rattle.session_laws.specs.Left.{times}
+use Rattle.session_laws.specs.Scaffold.Machine.{Asks, At, Closes, Doing, Over, Place, Prepares, Stamps, Trying, after, after_reply, are_subsets, behind, closes_at, closing, in_order, next, prepares_at, see, sents_at, sents_of, statements_at, trying, undone, went_on, works_at}
+use Rattle.session_laws.specs.Scaffold.Leading.{Leads, StandsAt, answer_of}
+use Rattle.session_laws.specs.Scaffold.Left.{times}
 
 module _ (r : Asker) (bound : ℕ) where
   -- the attempt, those that may follow it, and all of the transactions behind it

@@ -10,8 +10,8 @@ use Rattle.session_grammar.specs.Plans.{Asker, plan_of}
 use Rattle.session_grammar.specs.declared.plans.Plan.{Plan}
 use Rattle.session_grammar.specs.declared.plans.Plan.TheVariants.{Singles, Subsets}
 use Rattle.session_grammar.specs.declared.plans.Sent.{Sent}
-use Rattle.session_laws.specs.Machine.{Place, Trying, are_subsets, next, sents_of, statements_at, undone, went_on}
-use Rattle.session_laws.specs.Leading.{Leads}
+use Rattle.session_laws.specs.Scaffold.Machine.{Place, Trying, are_subsets, next, sents_of, statements_at, undone, went_on}
+use Rattle.session_laws.specs.Scaffold.Leading.{Leads}
 use Rattle.session_laws.proofs.Asking.{ListBy, is_lock, list_leads, list_out}
 use Rattle.session_laws.proofs.Leading.{Leads-append, walk, walk-append}
 

@@ -16,12 +16,12 @@ use Rattle.dp_messages.specs.declared.requests.Ask.{Ask}
 use Rattle.partition_map.specs.Map.{cut, part_of}
 use Rattle.range_finder.specs.Range.{range}
 use Rattle.dp_messages.specs.declared.requests.Ask.TheVariants.{BeginRead, BeginUpdate, BeginDelete, ReadKey}
-use Rattle.session_grammar.specs.Plans.{Asker, begins, begins_in, filter_code, first_part, plan_of, plan_on, select_plan}
+use Rattle.session_grammar.specs.Plans.{Asker, begin_pieces, begins_in, filter_code, first_part, plan_of, plan_on, select_plan}
 use Rattle.session_grammar.specs.declared.plans.Plan.{Plan}
 use Rattle.session_grammar.specs.declared.plans.Plan.TheVariants.{Singles, Subsets}
 use Rattle.session_grammar.specs.declared.plans.Sent.{Sent}
 use Rattle.session_grammar.specs.Rows.{fits, fits_subset}
-use Rattle.session_laws.specs.Machine.{are_subsets, sents_of}
+use Rattle.session_laws.specs.Scaffold.Machine.{are_subsets, sents_of}
 
 -- the replies that may come are those of a subset, where it is one
 abbrev pub Suits : Bool → Sent → Type 0
@@ -52,7 +52,7 @@ module _ (r : Asker) (table : TableDef) where
   select_suits place access predicate columns (Some range) = by_test (key_eq range.low range.high)
     where
       by_test : (b : Bool) → PlanSuits (if b then Singles (record { part = first_part r place + part_of table range.low; ask = ReadKey access range.low (filter_code predicate) columns } ∷ [])
-          else Subsets (begins r table place range (λ granule piece. BeginRead access granule piece (filter_code predicate) columns)))
+          else Subsets (begin_pieces r table place range (λ granule piece. BeginRead access granule piece (filter_code predicate) columns)))
       by_test true = (tt, tt)
       by_test false = begins_suit place (Some range) (λ granule piece. BeginRead access granule piece (filter_code predicate) columns) (λ granule piece x. refl)
 

@@ -20,7 +20,7 @@ use Rattle.session_grammar.specs.declared.logs.LogEntry.TheVariants.{Drew}
 use Rattle.session_grammar.specs.Follows.{AreAttempts, AreEnds, ArePrepares, AreTries, Attempt, Commits, InTurn, IsAttempt, IsEnding, LosesPrepare, Reads, entries_of, greatest_of, joined, touched}
 use Rattle.session_grammar.specs.Plans.{Asker}
 use Rattle.session_grammar.specs.Rows.{IsAsked}
-use Rattle.session_laws.specs.Leading.{answer_of}
+use Rattle.session_laws.specs.Scaffold.Leading.{answer_of}
 use Rattle.session_laws.proofs.Rows.{Same, asked_answer, first_same, regroup, rest_same, turns_same}
 use Rattle.session_grammar.proofs.Readings.{behind_same}
 

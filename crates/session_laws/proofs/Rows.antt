@@ -11,13 +11,13 @@ use Rattle.session_grammar.specs.declared.logs.Answer.{Answer}
 use Rattle.session_grammar.specs.declared.logs.Answer.TheVariants.{Reply}
 use Rattle.session_grammar.specs.declared.logs.LogEntry.{LogEntry}
 use Rattle.session_grammar.specs.declared.logs.LogEntry.TheVariants.{Asked, Drew}
-use Rattle.session_grammar.specs.Follows.{AfterRow, AreRows, InLineBy, InTurn, IsInLine, IsList, IsSingle, joined}
+use Rattle.session_grammar.specs.Follows.{AfterRow, AreExchanges, InLineBy, InTurn, IsInLine, IsList, IsSingle, joined}
 use Rattle.session_grammar.specs.Plans.{Asker, plan_of}
 use Rattle.session_grammar.specs.declared.plans.Plan.{Plan}
 use Rattle.session_grammar.specs.declared.plans.Plan.TheVariants.{Singles, Subsets}
 use Rattle.session_grammar.specs.declared.plans.Sent.{Sent}
-use Rattle.session_grammar.specs.Rows.{IsAsked, IsRow, failure, is_locked}
-use Rattle.session_laws.specs.Leading.{answer_of}
+use Rattle.session_grammar.specs.Rows.{IsAsked, IsExchange, failure, is_locked}
+use Rattle.session_laws.specs.Scaffold.Leading.{answer_of}
 use Rattle.session_grammar.proofs.Readings.{behind_same}
 
 -- two fronts and their ends are the same
@@ -49,7 +49,7 @@ record SameRow (xs ys : List LogEntry) (a b : Answer) : Type 0 where
   row : xs ≡ ys
   answer : a ≡ b
 
-row_same : (n part : ℕ) (request : Request) (xs ys us vs : List LogEntry) (a b : Answer) → IsRow n part request xs a → IsRow n part request ys b → xs ++ us ≡ ys ++ vs → SameRow xs ys a b
+row_same : (n part : ℕ) (request : Request) (xs ys us vs : List LogEntry) (a b : Answer) → IsExchange n part request xs a → IsExchange n part request ys b → xs ++ us ≡ ys ++ vs → SameRow xs ys a b
 row_same n part request [] ys us vs a b h k is = absurd h
 row_same n part request (e ∷ xs) [] us vs a b h k is = absurd k
 row_same n part request (e ∷ []) (f ∷ []) us vs a b h k is =
@@ -76,14 +76,14 @@ module _ (r : Asker) (ordinal : ℕ) where
 
   -- behind a row with the same answer
   after_same : (part : ℕ) (answer : Answer) (ls ms : List (List LogEntry)) (us vs : List LogEntry) (e f : Option Abort) → joined ls ++ us ≡ joined ms ++ vs
-      → AfterRow answer (λ subset last. AreRows r ordinal part (Continue subset last) ls e) ls e → AfterRow answer (λ subset last. AreRows r ordinal part (Continue subset last) ms f) ms f
-      → ((subset : ℕ) (last : List ℕ) → AreRows r ordinal part (Continue subset last) ls e → AreRows r ordinal part (Continue subset last) ms f → Same (joined ls) (joined ms) e f)
+      → AfterRow answer (λ subset last. AreExchanges r ordinal part (Continue subset last) ls e) ls e → AfterRow answer (λ subset last. AreExchanges r ordinal part (Continue subset last) ms f) ms f
+      → ((subset : ℕ) (last : List ℕ) → AreExchanges r ordinal part (Continue subset last) ls e → AreExchanges r ordinal part (Continue subset last) ms f → Same (joined ls) (joined ms) e f)
       → Same (joined ls) (joined ms) e f
   after_same part (Reply (reply.Redrive subset last cause rows changed)) ls ms us vs e f is h k more = more subset last h k
   after_same part (Reply (reply.Ended rows changed)) ls ms us vs e f is h k more = record { front = none_left ls ms h.0 k.0; end = h.1 ∙ sym k.1 }
   after_same part answer ls ms us vs e f is h k more = record { front = none_left ls ms h.0 k.0; end = h.2 ∙ sym k.2 }
 
-  rows_same : (part : ℕ) (ask : Ask) (ls ms : List (List LogEntry)) (us vs : List LogEntry) (e f : Option Abort) → AreRows r ordinal part ask ls e → AreRows r ordinal part ask ms f
+  rows_same : (part : ℕ) (ask : Ask) (ls ms : List (List LogEntry)) (us vs : List LogEntry) (e f : Option Abort) → AreExchanges r ordinal part ask ls e → AreExchanges r ordinal part ask ms f
       → joined ls ++ us ≡ joined ms ++ vs → Same (joined ls) (joined ms) e f
   rows_same part ask [] ms us vs e f h k is = absurd h
   rows_same part ask (l ∷ ls) [] us vs e f h k is = absurd k
@@ -91,7 +91,7 @@ module _ (r : Asker) (ordinal : ℕ) where
       let whole = regroup l (joined ls) us m (joined ms) vs is in
       let row = row_same r.limits.patience part (record { ordinal = ordinal; ask = ask }) l m (joined ls ++ us) (joined ms ++ vs) h.0 k.0 h.1 k.1 whole in
       let behind = behind_same l m (joined ls ++ us) (joined ms ++ vs) row.row whole in
-      let goes = subst (λ a. AfterRow a (λ subset last. AreRows r ordinal part (Continue subset last) ls e) ls e) row.answer h.2 in
+      let goes = subst (λ a. AfterRow a (λ subset last. AreExchanges r ordinal part (Continue subset last) ls e) ls e) row.answer h.2 in
       let more = after_same part k.0 ls ms us vs e f behind goes k.2 (λ subset last x y. rows_same part (Continue subset last) ls ms us vs e f x y behind) in
       record { front = ap (λ x. x ++ joined ls) row.row ∙ ap (λ x. m ++ x) more.front; end = more.end }
 

@@ -9,7 +9,7 @@ use Rattle.session_grammar.specs.declared.logs.LogEntry.TheVariants.{Asked, Drew
 use Rattle.session_grammar.specs.Follows.{Attempt, joined, touched}
 use Rattle.session_grammar.specs.Plans.{Asker}
 use Rattle.session_grammar.specs.Rows.{is_for}
-use Rattle.session_laws.specs.Machine.{has_seen, in_order, see}
+use Rattle.session_laws.specs.Scaffold.Machine.{has_seen, in_order, see}
 use Rattle.session_laws.proofs.Leading.{walk}
 
 seen_same : (p q : ℕ) (seen : List ℕ) (b : Bool) → (p == q) ≡ b → has_seen seen p ≡ true → has_seen seen q ≡ (b || has_seen seen q)

@@ -7,8 +7,8 @@ use Rattle.session_grammar.specs.Follows.{asker, works_of}
 use Rattle.session_grammar.specs.Plans.{Asker}
 use Rattle.session_grammar.specs.Sessions.{sync_behind}
 use Rattle.session_grammar.specs.Sessions.{Ends, IsSessionOf, IsWithin, entries_kept}
-use Rattle.session_laws.specs.Machine.{Asks, At, Closes, Over, Place, Prepares, Stamps, after, task_at, works_at}
-use Rattle.session_laws.specs.Leading.{StandsAt, next_behind, next_of}
+use Rattle.session_laws.specs.Scaffold.Machine.{Asks, At, Closes, Over, Place, Prepares, Stamps, after, task_at, works_at}
+use Rattle.session_laws.specs.Scaffold.Leading.{StandsAt, next_behind, next_of}
 use Rattle.session_laws.proofs.Places.{Within, leads_there, works_there}
 use Rattle.session_laws.proofs.Standing.{begins_where_led, goes_on, whole_where_over}
 

@@ -11,8 +11,8 @@ use Rattle.session_grammar.specs.Sessions.{sync_behind}
 use Rattle.session_grammar.specs.Plans.{Asker}
 use Rattle.session_grammar.specs.Sessions.{MayCome, entries_kept}
 use Rattle.session_grammar.proofs.LogLists.{CountSyncs-append, CountSyncs-rest}
-use Rattle.session_laws.specs.Machine.{Draw, Nothing, Over, Place, Send, Task, after, task_at, works_at}
-use Rattle.session_laws.specs.Leading.{BeginsInLine, Does, Leads, Rest, StandsAt, next_behind, next_of}
+use Rattle.session_laws.specs.Scaffold.Machine.{Draw, Nothing, Over, Place, Send, Task, after, task_at, works_at}
+use Rattle.session_laws.specs.Scaffold.Leading.{BeginsInLine, Does, Leads, Rest, StandsAt, next_behind, next_of}
 use Rattle.session_laws.proofs.Attempts.{attempts_lead}
 use Rattle.session_laws.proofs.Ending.{can_end}
 use Rattle.session_laws.proofs.FoundAttempts.{attempts_found}

@@ -15,13 +15,13 @@ use Rattle.session_grammar.specs.declared.logs.Answer.{Answer}
 use Rattle.session_grammar.specs.declared.logs.Answer.TheVariants.{Reply}
 use Rattle.session_grammar.specs.declared.logs.LogEntry.{LogEntry}
 use Rattle.session_grammar.specs.declared.logs.LogEntry.TheVariants.{Asked, Drew}
-use Rattle.session_grammar.specs.Follows.{AreEnds, AreRows, Attempt, InLineBy, InTurn, IsAttempt, IsEnding, IsList, IsPart, IsSingle, Together, WideBy, joined, projection, touched}
+use Rattle.session_grammar.specs.Follows.{AreEnds, AreExchanges, Attempt, InLineBy, InTurn, IsAttempt, IsEnding, IsList, IsPart, IsSingle, Together, WideBy, joined, projection, touched}
 use Rattle.session_grammar.specs.Plans.{Asker, plan_of}
 use Rattle.session_grammar.specs.declared.plans.Plan.{Plan}
 use Rattle.session_grammar.specs.declared.plans.Plan.TheVariants.{Singles, Subsets}
 use Rattle.session_grammar.specs.declared.plans.Sent.{Sent}
-use Rattle.session_grammar.specs.Rows.{IsAsked, IsRow, is_end, is_for}
-use Rattle.session_laws.specs.Machine.{sents_of}
+use Rattle.session_grammar.specs.Rows.{IsAsked, IsExchange, is_end, is_for}
+use Rattle.session_laws.specs.Scaffold.Machine.{sents_of}
 use Rattle.session_laws.proofs.LooseSame.{EndsNext, Then}
 use Rattle.session_laws.proofs.Within.{Rise, plans_rise}
 
@@ -53,7 +53,7 @@ asked_for : (part : ℕ) (request : Request) (answer : Answer) (e : LogEntry) �
 asked_for part request answer (Asked p s q l a) h = eq-eqb p part h.0
 asked_for part request answer (Drew n f a) h = absurd h
 
-row_for : (n part : ℕ) (request : Request) (row rest : List LogEntry) (answer : Answer) → IsRow n part request row answer → list_any (is_for part) (row ++ rest) ≡ true
+row_for : (n part : ℕ) (request : Request) (row rest : List LogEntry) (answer : Answer) → IsExchange n part request row answer → list_any (is_for part) (row ++ rest) ≡ true
 row_for n part request [] rest answer h = absurd h
 row_for n part request (e ∷ []) rest answer h = or_left (is_for part e) (list_any (is_for part) rest) (asked_for part request answer e h.0)
 row_for zero part request (e ∷ f ∷ es) rest answer h = absurd h
@@ -63,7 +63,7 @@ module _ (r : Asker) (ordinal : ℕ) where
   list_for : (sent : Sent) (list : List LogEntry) (end : Option Abort) → IsList r ordinal sent list end → list_any (is_for sent.part) list ≡ true
   list_for sent list end h = by h.0 h.1 h.2
     where
-      by : (rows : List (List LogEntry)) → list ≡ joined rows → AreRows r ordinal sent.part sent.ask rows end → list_any (is_for sent.part) list ≡ true
+      by : (rows : List (List LogEntry)) → list ≡ joined rows → AreExchanges r ordinal sent.part sent.ask rows end → list_any (is_for sent.part) list ≡ true
       by [] is rows = absurd rows
       by (row ∷ rows) is k = subst (λ (x : List LogEntry). list_any (is_for sent.part) x ≡ true) (sym is) (row_for r.limits.patience sent.part (record { ordinal = ordinal; ask = sent.ask }) row (joined rows) k.0 k.1)
 

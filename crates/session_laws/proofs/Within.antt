@@ -20,10 +20,10 @@ use Rattle.dp_messages.specs.declared.requests.Ask.TheVariants as ask
 use Rattle.partition_map.specs.declared.Piece.{Piece}
 use Rattle.partition_map.specs.Map.{high_of, low_of, part_of, piece_of}
 use Rattle.range_finder.specs.Range.{range}
-use Rattle.session_grammar.specs.Plans.{Asker, all_columns, begins, begins_in, filter_code, first_part, plan_of, plan_on, select_plan}
+use Rattle.session_grammar.specs.Plans.{Asker, all_columns, begin_pieces, begins_in, filter_code, first_part, plan_of, plan_on, select_plan}
 use Rattle.session_grammar.specs.declared.plans.Plan.TheVariants.{Singles, Subsets}
 use Rattle.session_grammar.specs.declared.plans.Sent.{Sent}
-use Rattle.session_laws.specs.Machine.{sents_of}
+use Rattle.session_laws.specs.Scaffold.Machine.{sents_of}
 use Rattle.sql_base.proofs.RowFacts.{parts_within}
 
 -- the partitions rise from `low` on, and stay below `high`
@@ -66,7 +66,7 @@ module _ (r : Asker) (table : TableDef) (there : ℕ) where
   begins_rise : (found : Option KeyRange) (begin : List ℕ → KeyRange → Ask) → Rise 0 end (begins_in r table there found begin)
   begins_rise None begin = tt
   begins_rise (Some whole) begin =
-      rise_from (first_part r there + 0) 0 (first_part r there + (0 + (length table.firsts + 1))) end (begins r table there whole begin) (omega arith) (omega arith)
+      rise_from (first_part r there + 0) 0 (first_part r there + (0 + (length table.firsts + 1))) end (begin_pieces r table there whole begin) (omega arith) (omega arith)
       (sents_rise (λ piece. begin (common_prefix whole.low whole.high) piece.range) whole (length table.firsts + 1) 0)
 
   one_rises : (a : Ask) (key : List ℕ) → Rise 0 end (record { part = first_part r there + part_of table key; ask = a } ∷ [])
@@ -83,7 +83,7 @@ module _ (r : Asker) (table : TableDef) (there : ℕ) where
   select_rises access predicate columns (Some whole) = by_test (key_eq whole.low whole.high)
     where
       by_test : (b : Bool) → Rise 0 end (sents_of (if b then Singles (record { part = first_part r there + part_of table whole.low; ask = ask.ReadKey access whole.low (filter_code predicate) columns } ∷ [])
-          else Subsets (begins r table there whole (λ granule piece. ask.BeginRead access granule piece (filter_code predicate) columns))))
+          else Subsets (begin_pieces r table there whole (λ granule piece. ask.BeginRead access granule piece (filter_code predicate) columns))))
       by_test true = one_rises (ask.ReadKey access whole.low (filter_code predicate) columns) whole.low
       by_test false = begins_rise (Some whole) (λ granule piece. ask.BeginRead access granule piece (filter_code predicate) columns)
 

@@ -1,3 +1,1 @@
-pub mod Machine
-pub mod Leading
-pub mod Left
+pub mod Scaffold

@@ -8,9 +8,9 @@ ghost use Rattle.session_grammar.specs.Follows.{Attempt, Follows, FollowsInLine,
 ghost use Rattle.session_grammar.specs.Sessions.{sync_behind};
 ghost use Rattle.session_grammar.specs.Plans.{Asker};
 ghost use Rattle.session_grammar.specs.Sessions.{IsSessionOf, MayCome, entries_kept};
-ghost use Rattle.session_laws.specs.Machine.{At, Doing, Over, Place, Trying, after, works_at};
-ghost use Rattle.session_laws.specs.Left.{is_redrive, is_repeat, left, spare_after, times, works_left};
-ghost use Rattle.session_laws.specs.Leading.{BeginsInLine, Rest, StandsAt, next_behind};
+ghost use Rattle.session_laws.specs.Scaffold.Machine.{At, Doing, Over, Place, Trying, after, works_at};
+ghost use Rattle.session_laws.specs.Scaffold.Left.{is_redrive, is_repeat, left, spare_after, times, works_left};
+ghost use Rattle.session_laws.specs.Scaffold.Leading.{BeginsInLine, Rest, StandsAt, next_behind};
 
 /// A log follows in line just where it leads a session from its first place to its end.
 /// It is the front of such a log just where it leads to a place, and follows just where that is the end.

@@ -9,6 +9,6 @@ pub mod CommonPrefixes
 pub mod FaultsOfKeys
 pub mod Failing
 pub mod Truths
-pub mod Lists
+pub mod ListFacts
 pub mod Orderings
 pub mod RowFacts

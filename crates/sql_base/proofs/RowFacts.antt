@@ -9,7 +9,7 @@ use Rattle.std.specs.Cmp.Lexicographic.{slice_cmp}
 use Rattle.std.specs.List.{cons_option, list_any}
 use Rattle.std.specs.Ordering.{nat_cmp, ordering_then}
 use Rattle.std.specs.Prelude.{IsSome, nat_eq, replicate, slice_get, slice_set, sum_by}
-use Rattle.sql_base.proofs.Lists.{none-there}
+use Rattle.sql_base.proofs.ListFacts.{none-there}
 use Rattle.sql_base.specs.Locks.{same_txn}
 use Rattle.sql_base.specs.Names.{is_name_byte}
 use Rattle.sql_base.specs.Rows.{chosen, is_printable, key_value, key_values, padded, width}

@@ -15,10 +15,10 @@ use Rattle.dp_messages.specs.declared.requests.Ask.{Ask}
 use Rattle.dp_messages.specs.declared.requests.Ask.TheVariants as ask
 use Rattle.partition_map.specs.Map.{cut}
 use Rattle.partition_map.specs.declared.Piece.{Piece}
-use Rattle.session_grammar.specs.Plans.{Asker, begins, begins_in, filter_code, first_part, plan_of, plan_on, select_plan}
+use Rattle.session_grammar.specs.Plans.{Asker, begin_pieces, begins_in, filter_code, first_part, plan_of, plan_on, select_plan}
 use Rattle.session_grammar.specs.declared.plans.Plan.TheVariants.{Subsets}
 use Rattle.session_grammar.specs.declared.plans.Sent.{Sent}
-use Rattle.statement_plans.specs.Begins.{begin_of, sent_in}
+use Rattle.statement_plans.specs.Scaffold.Begins.{begin_of, sent_in}
 use Rattle.statement_plans.specs.declared.begins.Begin.{Begin}
 use Rattle.statement_plans.specs.declared.begins.Begin.TheVariants.{Read}
 
@@ -51,14 +51,14 @@ locks_more first mode sents more part prefix pushed empty so_far =
 
 -- the Begins of a range, where the table's first partition is so
 pub begins_are : (asker : Asker) (table : TableDef) (place first : ℕ) (range : KeyRange) (begin : Begin) → first ≡ first_part asker place
-    → map (sent_in first range begin) (cut table range) ≡ begins asker table place range (begin_of begin)
+    → map (sent_in first range begin) (cut table range) ≡ begin_pieces asker table place range (begin_of begin)
 begins_are asker table place first range begin is = ap (λ n. map (sent_in n range begin) (cut table range)) is
 
 pub begins_in_are : (asker : Asker) (table : TableDef) (place first : ℕ) (range : KeyRange) (found : Option KeyRange) (begin : Begin) → first ≡ first_part asker place → Some range ≡ found
     → map (sent_in first range begin) (cut table range) ≡ begins_in asker table place found (begin_of begin)
 begins_in_are asker table place first range found begin is here = begins_are asker table place first range begin is ∙ ap (λ o. begins_in asker table place o (begin_of begin)) here
 
--- a SELECT of a range that isn't one key begins in its pieces
+-- a SELECT of a range that isn't one key begin_pieces in its pieces
 pub select_begins : (asker : Asker) (table : TableDef) (place first : ℕ) (range : KeyRange) (access : Access) (predicate : Option Expr) (filter : Option (List ℕ)) (columns : List ℕ) (sents : List Sent)
     → first ≡ first_part asker place → filter ≡ filter_code predicate → key_eq range.low range.high ≡ false → sents ≡ map (sent_in first range (Read access filter columns)) (cut table range)
     → Subsets sents ≡ select_plan asker table place access predicate columns (Some range)

@@ -10,7 +10,7 @@ use Rattle.sql_base.specs.declared.statements.Assign.{Assign}
 use Rattle.sql_base.specs.declared.tables.ColumnKind.{ColumnKind}
 use Rattle.sql_base.specs.declared.tables.ColumnKind.TheVariants.{Int, Char}
 use Rattle.sql_base.specs.declared.tables.TableDef.{TableDef}
-use Rattle.update_expressions.specs.Refusing.{fault_behind, fault_in, fault_of, first_fault, misfit}
+use Rattle.update_expressions.specs.Refusing.{fault_behind, fault_in, set_fault, first_set_fault, misfit}
 use Rattle.update_expressions.specs.declared.faults.SetFault.{SetFault}
 use Rattle.update_expressions.specs.declared.faults.SetFault.TheVariants.{KeyColumn, NoMemory, TextTooLong, Twice, UnknownColumn, WrongType}
 use Rattle.update_expressions.proofs.Refused.{column_of}
@@ -36,7 +36,7 @@ module _ (table : TableDef) where
   fits_there place (Char room) OfTruth h = absurd h
   fits_there place (Char room) (OfText w) h = rw (le-ltb room w h) refl
 
-  one_none : (before : List Assign) (set : Assign) → IsAssign table set → list_any (λ (s : Assign). nat_eq s.column set.column) before ≡ false → fault_of table before set ≡ None
+  one_none : (before : List Assign) (set : Assign) → IsAssign table set → list_any (λ (s : Assign). nat_eq s.column set.column) before ≡ false → set_fault table before set ≡ None
   one_none before set is once =
       ap (fault_in table before set) is.2
       ∙ rw is.3 (rw once (ap (misfit (length before) is.0) is.5.typed ∙ fits_there (length before) is.0 is.1 is.4))
@@ -48,8 +48,8 @@ module _ (table : TableDef) where
       let rest = none_behind (before ++ set ∷ []) sets each.1 (ap (λ (xs : List Assign). all_differ nat_eq (map column_of xs)) (append_assoc before (set ∷ []) sets) ∙ differ) in
       ap (λ o. option_or o (fault_behind table (before ++ set ∷ []) sets)) here ∙ rest
 
-pub no_fault : (table : TableDef) (sets : List Assign) (fault : SetFault) → AreSets table sets → first_fault table sets ≢ Some fault
-no_fault table sets fault are found = let none : first_fault table sets ≡ None = none_behind table [] sets are.each are.differ in absurd (cc (none, found))
+pub no_fault : (table : TableDef) (sets : List Assign) (fault : SetFault) → AreSets table sets → first_set_fault table sets ≢ Some fault
+no_fault table sets fault are found = let none : first_set_fault table sets ≡ None = none_behind table [] sets are.each are.differ in absurd (cc (none, found))
 
 -- a fault that isn't another is want of memory
 pub memory_is : (fault : SetFault) → (fault ≢ NoMemory → ⊥) → fault ≡ NoMemory

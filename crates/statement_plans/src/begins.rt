@@ -4,7 +4,7 @@ ghost use Rattle.partition_map.specs.Map.{cut};
 ghost use Rattle.session_grammar.specs.Plans.{filter_code};
 ghost use Rattle.sql_base.specs.Rows.{key_kinds, key_width};
 ghost use Rattle.sql_base.specs.Tables.{IsFilter, are_leading};
-ghost use Rattle.statement_plans.specs.Begins.{begin_of, sent_in};
+ghost use Rattle.statement_plans.specs.Scaffold.Begins.{begin_of, sent_in};
 
 use dp_messages::Ask;
 use partition_cuts::cut;

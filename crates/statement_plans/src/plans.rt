@@ -11,7 +11,7 @@ ghost use Rattle.session_grammar.specs.Plans.{Asker, begins_in, filter_code, fir
 ghost use Rattle.session_grammar.specs.declared.plans.Plan.TheVariants.{Subsets};
 ghost use Rattle.sql_base.specs.Tables.{table_of};
 ghost use Rattle.range_finder.specs.Range.{range};
-ghost use Rattle.statement_plans.specs.Begins.{begin_of};
+ghost use Rattle.statement_plans.specs.Scaffold.Begins.{begin_of};
 
 use crate::begins::{Begin, begins, columns_copy, filter_code};
 use crate::targets::{first_part, table_of};

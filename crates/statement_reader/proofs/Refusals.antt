@@ -13,7 +13,7 @@ use Rattle.statement_printer.specs.Printing.{printed}
 use Rattle.statement_draft.specs.Judging.{read, script_of}
 use Rattle.statement_draft.specs.declared.draft.Draft.{Draft}
 use Rattle.statement_draft.specs.declared.faults.Fault.{Fault}
-use Rattle.statement_reader.specs.Spells.{limit, Spells, Reads, FaultIn, FaultOf, IsFault, IsRefusal, Judges}
+use Rattle.statement_reader.specs.Spells.{limit, Spells, ReadsAs, FaultIn, FaultOf, IsFault, IsRefusal, Judges}
 use Rattle.statement_reader.specs.declared.faults.ReadFault.{ReadFault}
 use Rattle.statement_reader.specs.declared.faults.ReadFault.TheVariants as faults
 use Rattle.statement_reader.specs.declared.faults.ScriptFault.{ScriptFault}
@@ -28,7 +28,7 @@ prints_too_much : (text : List ℕ) (fault : ScriptFault) (first : Option Fault)
 prints_too_much text fault None script clean h = h.0
 prints_too_much text fault (Some first) script clean h = cc
 
-only_one : (text : List ℕ) (d : Draft) (r : Result Script ReadFault) (s : Script) → d.first ≡ None → s ≡ script_of d → length (printed s) ≤ limit → Judges text d r → Reads r s
+only_one : (text : List ℕ) (d : Draft) (r : Result Script ReadFault) (s : Script) → d.first ≡ None → s ≡ script_of d → length (printed s) ≤ limit → Judges text d r → ReadsAs r s
 only_one text d (Ok script) s clean meant prints h = h.1 ∙ sym meant
 only_one text d (Err faults.NoMemory) s clean meant prints h = tt
 only_one text d (Err (faults.Script fault)) s clean meant prints h =
@@ -40,7 +40,7 @@ same_tokens : (text : List ℕ) (a b : List Token) → words_of text ≡ Ok a �
 same_tokens text a b h k = cc
 
 pub spelled_is_found : (text : List ℕ) (tokens : List Token) (r : Result Script ReadFault) → words_of text ≡ Ok tokens
-    → Judges text (read tokens (length text)) r → (s : Script) → Spells text s → Reads r s
+    → Judges text (read tokens (length text)) r → (s : Script) → Spells text s → ReadsAs r s
 spelled_is_found text tokens r words h s spelled =
     let same : spelled.tokens ≡ tokens = same_tokens text spelled.tokens tokens spelled.words words in
     let clean : (read tokens (length text)).first ≡ None = subst (λ (ts : List Token). (read ts (length text)).first ≡ None) same spelled.clean in

@@ -31,10 +31,10 @@ pub record Spells (text : List ℕ) (script : Script) : Type 0 where
   pub prints : length (printed script) ≤ limit
 
 -- the script was read, unless memory ran out
-abbrev pub Reads : Result Script ReadFault → Script → Type 0
-Reads (Ok read) script = read ≡ script
-Reads (Err faults.NoMemory) script = Unit {0}
-Reads (Err (faults.Script fault)) script = ⊥
+abbrev pub ReadsAs : Result Script ReadFault → Script → Type 0
+ReadsAs (Ok read) script = read ≡ script
+ReadsAs (Err faults.NoMemory) script = Unit {0}
+ReadsAs (Err (faults.Script fault)) script = ⊥
 
 abbrev pub reason_of : WordReason → Reason
 reason_of words.BadByte = BadByte

@@ -1,6 +1,6 @@
 //! Lines and columns.
 ghost use Rattle.std.specs.Prelude.{◌≡◌, ◌+◌, ◌<◌, ◌≤◌, ◌^◌, length, min};
-ghost use Rattle.statement_reader.specs.Positions.{line_of, column_of, fault_at};
+ghost use Rattle.statement_reader.specs.Positions.{line_number, column_of, fault_at};
 
 use crate::faults::ScriptFault;
 use statement_draft::Reason;
@@ -15,7 +15,7 @@ struct Position {
 /// The place behind these bytes.
 fn position_behind(before: &[u8]) -> Position
     requires { length before.now < 2 ^ 31 }
-    ensures line { result.line ≡ line_of before.now (length before.now) }
+    ensures line { result.line ≡ line_number before.now (length before.now) }
     ensures column { result.column ≡ column_of before.now (length before.now) }
 {
     let mut position = Position { line: 1, column: 1 };

@@ -4,7 +4,7 @@ ghost use Rattle.sql_base.specs.Scripts.{IsScript};
 ghost use Rattle.sql_base.specs.declared.scripts.Script as script;
 ghost use Rattle.statement_printer.specs.Printing.{printed};
 ghost use Rattle.statement_draft.specs.Judging.{script_of};
-ghost use Rattle.statement_reader.specs.Spells.{Spells, Reads, reason_of, IsRefusal, Judges, RefusesWhole};
+ghost use Rattle.statement_reader.specs.Spells.{Spells, ReadsAs, reason_of, IsRefusal, Judges, RefusesWhole};
 
 use crate::faults::{ReadFault, ScriptFault};
 use crate::positions::fault_at;
@@ -68,7 +68,7 @@ pub fn read_script<C: Checks>(alloc: Global, checks: &C, text: &[u8]) -> Result<
     // What is read is spelled by the bytes, all of them.
     ensures found { IfOk result (Spells text.now) }
     // What is spelled is read, unless memory runs out.
-    ensures only { (s : script.Script) → Spells text.now s → Reads result s }
+    ensures only { (s : script.Script) → Spells text.now s → ReadsAs result s }
     // Which refusal it is, and where.
     ensures refused { IfErr result (IsRefusal text.now) }
     // What is read meets every rule of scripts.

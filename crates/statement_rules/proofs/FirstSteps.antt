@@ -19,7 +19,7 @@ use Rattle.statement_draft.specs.declared.draft.Draft.{Draft}
 use Rattle.statement_draft.specs.declared.draft.RowOf.TheVariants as row_of
 use Rattle.statement_draft.proofs.Clean.{noted-none}
 use Rattle.statement_rules.proofs.States.{Declares, Declared, last_of, Firsting, Whole}
-use Rattle.sql_base.proofs.Lists.{all-push, all-weaker}
+use Rattle.sql_base.proofs.ListFacts.{all-push, all-weaker}
 use Rattle.statement_rules.proofs.Stays.{is_none}
 
 -- one key more, above the last

@@ -18,7 +18,7 @@ use Rattle.statement_draft.specs.TableEvents.{column_bytes}
 use Rattle.statement_draft.specs.declared.draft.NameAt.{NameAt}
 use Rattle.statement_draft.specs.declared.faults.Fault.{Fault}
 use Rattle.sql_base.proofs.Truths.{and_left, and_right, and_true, neither, not-is, not-true, or_left, or_right}
-use Rattle.sql_base.proofs.Lists.{all-push}
+use Rattle.sql_base.proofs.ListFacts.{all-push}
 
 any_none : {A : Type 0} (f : A → Bool) (xs : List A) (c : A) → list_any f xs ≡ false → f c ≡ false → list_any f (xs ++ c ∷ []) ≡ false
 any_none f [] c h e = neither (f c) false e refl

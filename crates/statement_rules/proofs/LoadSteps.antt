@@ -30,7 +30,7 @@ use Rattle.statement_rules.proofs.RowSteps.{fits_row, row_of_kinds}
 use Rattle.statement_rules.proofs.TableSteps.{is_none}
 use Rattle.statement_rules.proofs.States.{Tabled, last_of, LoadsSound, Loading, LastKey, InLoadOf}
 use Rattle.sql_base.proofs.Truths.{not-false}
-use Rattle.sql_base.proofs.Lists.{all-push}
+use Rattle.sql_base.proofs.ListFacts.{all-push}
 
 pub unknown_none : (at : ℕ) (f : Option Fault) → noted true UnknownName at f ≡ None → ⊥
 unknown_none at f h = stays.unknown UnknownName at f h

@@ -24,7 +24,7 @@ use Rattle.statement_rules.proofs.LoadSteps.{found_table, unknown_none}
 use Rattle.statement_rules.proofs.ExpressionSteps.{Sees}
 use Rattle.statement_rules.proofs.States.{Loading, WorkSound, Sessioned, Between, Working, Stating, Known}
 use Rattle.sql_base.proofs.Truths.{plus-none}
-use Rattle.sql_base.proofs.Lists.{all-push}
+use Rattle.sql_base.proofs.ListFacts.{all-push}
 
 -- before the first session
 pub sessions_begin : (d : Draft) → Loading d → Between d

@@ -44,7 +44,7 @@ use Rattle.statement_rules.proofs.SessionSteps.{known, known_sees}
 use Rattle.statement_rules.proofs.States.{Known, SetsSound}
 use Rattle.statement_rules.proofs.RowSteps.{as_none, no_reason as no_long}
 use Rattle.sql_base.proofs.Truths.{counted as most, or_left, or_right}
-use Rattle.sql_base.proofs.Lists.{all-push}
+use Rattle.sql_base.proofs.ListFacts.{all-push}
 
 -- ---- SELECT lists
 

@@ -25,7 +25,7 @@ use Rattle.statement_rules.proofs.Listing.{bytes_more}
 use Rattle.statement_rules.proofs.Differing.{columns_differ, tables_differ}
 use Rattle.statement_rules.proofs.States.{TablesSound, Tabled, Room, kinds_in, ColumnsSound, NextColumn, InColumns, Columning, KeySound, Keying, Declared, Whole}
 use Rattle.sql_base.proofs.Truths.{not-false, or_left, or_right, plus-none}
-use Rattle.sql_base.proofs.Lists.{all-push}
+use Rattle.sql_base.proofs.ListFacts.{all-push}
 
 pub is_none : {A : Type 0} (o : Option A) → is_some o ≡ false → o ≡ None
 is_none None h = refl

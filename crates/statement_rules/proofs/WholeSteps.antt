@@ -22,7 +22,7 @@ use Rattle.statement_draft.proofs.Clean.{noted-none, sooner-some}
 use Rattle.statement_draft.proofs.Wholes.{whole_is_predicate}
 use Rattle.statement_rules.proofs.ExpressionSteps.{Sound, Sees, sees_kept, OneMore, expression_of}
 use Rattle.statement_rules.proofs.States.{Declares, Declared}
-use Rattle.sql_base.proofs.Lists.{all-push, all-weaker}
+use Rattle.sql_base.proofs.ListFacts.{all-push, all-weaker}
 
 -- a whole expression without fault
 pub record Expressed (table : TableDef) (x : Operand) : Type 0 where

@@ -16,11 +16,11 @@ use Rattle.driver_laws.specs.Carrying.{IsCarried, sendings}
 use Rattle.driver_laws.specs.Moves.{nothing_yet}
 use Rattle.driver_laws.specs.Scheduling.{ScheduledSoFar, mail_after, posted_of, steps_of}
 use Rattle.driver_laws.proofs.Starting.{begun}
-use Rattle.step_world.specs.Openings.{AreOpened, is_opened}
+use Rattle.step_world.specs.Scaffold.Openings.{AreOpened, is_opened}
 use Rattle.step_world.specs.Runs.{AreNew, AreSeated, IsNew, new_seat}
-use Rattle.step_world.specs.Seats.{seen}
+use Rattle.step_world.specs.Scaffold.Seats.{seen}
 use Rattle.step_world.specs.Tellings.{Telling}
-use Rattle.step_world.specs.Worlds.{Driving, EachAt, IsMessage, IsProcess, IsSeat, IsTold, Scene, Setting, Stands, awaited_of, live_in, record_of, request_in, seat_steps, sendings_so_far, steps_in, steps_with, ways_of}
+use Rattle.step_world.specs.Scaffold.Worlds.{Driving, EachAt, IsMessage, IsProcess, IsSeat, IsTold, Scene, Setting, Stands, awaited_of, live_in, record_of, request_in, seat_steps, sendings_so_far, steps_in, steps_with, ways_of}
 use Rattle.step_world.specs.declared.processes.DiskProcess.{DiskProcess}
 use Rattle.step_world.specs.declared.seats.Seat.{Seat}
 use Rattle.step_world.proofs.Opened.{way_at}

@@ -9,11 +9,11 @@ use Rattle.record_laws.proofs.FiveFacts.{within_tables}
 use Rattle.driver_laws.specs.Scheduling.{Actor, OfPartition, OfSession}
 use Rattle.step_world.specs.Choosing.{actor_seen, acts_at, has_mail, is_acting, mail_at, some_mail}
 use Rattle.requester_fs.specs.Asking.{Asking}
-use Rattle.step_world.specs.Seats.{turn_of}
+use Rattle.step_world.specs.Scaffold.Seats.{turn_of}
 use Rattle.step_world.specs.declared.seats.Seat.{Seat}
 use Rattle.step_world.specs.Runs.{GoesOnFrom}
 use Rattle.step_world.specs.Tellings.{HasTold, Telling}
-use Rattle.step_world.specs.Worlds.{Driving, GoesOn, GoesOnWith, HasMail, Scene, Setting, record_of}
+use Rattle.step_world.specs.Scaffold.Worlds.{Driving, GoesOn, GoesOnWith, HasMail, Scene, Setting, record_of}
 use Rattle.step_world.specs.declared.choosing.Agent.{Agent}
 use Rattle.step_world.specs.declared.choosing.Agent.TheVariants.{Partition}
 use Rattle.step_world.specs.declared.processes.DiskProcess.{DiskProcess}

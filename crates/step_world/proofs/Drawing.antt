@@ -32,9 +32,9 @@ use Rattle.driver_laws.proofs.Carrying.{carried_drawn, passages_more}
 use Rattle.driver_laws.proofs.Moving.{drawn}
 use Rattle.driver_laws.proofs.Posting.{posted_drawn}
 use Rattle.driver_laws.proofs.Starting.{other_acts}
-use Rattle.step_world.specs.Seats.{IsAnswered}
+use Rattle.step_world.specs.Scaffold.Seats.{IsAnswered}
 use Rattle.step_world.specs.Tellings.{Telling}
-use Rattle.step_world.specs.Worlds.{Driving, EachAt, IsProcess, IsTold, Scene, Setting, Stands, WasPosted, awaited_of, has_some, next_actor, record_of, request_in, seat_steps, sendings_so_far, steps_in, steps_with, ways_of}
+use Rattle.step_world.specs.Scaffold.Worlds.{Driving, EachAt, IsProcess, IsTold, Scene, Setting, Stands, WasPosted, awaited_of, has_some, next_actor, record_of, request_in, seat_steps, sendings_so_far, steps_in, steps_with, ways_of}
 use Rattle.step_world.specs.declared.seats.Seat.{Seat}
 use Rattle.step_world.proofs.Acting.{next_scene, others_stay, own_steps, session_acts}
 use Rattle.step_world.proofs.Answering.{above_in, above_open, fresh_stands, no_steps, unserved_so_far}

@@ -7,7 +7,7 @@ use Rattle.std.proofs.lemmas.List.Elements.{filter-append}
 use Rattle.requester_fs.specs.Asking.{Asking}
 use Rattle.driver_laws.specs.Scheduling.{OfPartition, OfSession}
 use Rattle.step_world.specs.Choosing.{actor_seen, acts_at, has_mail, is_acting, mail_at}
-use Rattle.step_world.specs.Seats.{turn_of}
+use Rattle.step_world.specs.Scaffold.Seats.{turn_of}
 use Rattle.step_world.specs.declared.choosing.Agent.{Agent}
 use Rattle.step_world.specs.declared.choosing.Agent.TheVariants.{Partition, Session}
 use Rattle.step_world.specs.declared.processes.DiskProcess.{DiskProcess}

@@ -15,8 +15,8 @@ use Rattle.session_grammar.specs.UnderWay.{Sending}
 use Rattle.session_grammar.specs.declared.logs.Answer.TheVariants.{PathFailed}
 use Rattle.session_grammar.specs.declared.logs.LogEntry.{LogEntry}
 use Rattle.run_record.specs.declared.records.Act.{Act}
-use Rattle.step_world.specs.Seats.{IsOut, MayFail}
-use Rattle.step_world.specs.Worlds.{AreLater, IsLater, Scene, Stands}
+use Rattle.step_world.specs.Scaffold.Seats.{IsOut, MayFail}
+use Rattle.step_world.specs.Scaffold.Worlds.{AreLater, IsLater, Scene, Stands}
 use Rattle.step_world.specs.declared.processes.DiskProcess.{DiskProcess}
 use Rattle.step_world.specs.declared.seats.Outgoing.{Outgoing}
 use Rattle.step_world.specs.declared.seats.Seat.{Seat}

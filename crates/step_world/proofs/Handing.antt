@@ -35,10 +35,10 @@ use Rattle.driver_laws.proofs.Moving.{later, served as served_so_far, taken}
 use Rattle.driver_laws.proofs.Picking.{answer_fits, never_passed, served_before}
 use Rattle.driver_laws.proofs.Seats.{length_set, seat_same}
 use Rattle.driver_laws.proofs.Starting.{by_hand}
-use Rattle.step_world.specs.Mails.{CanReply, Handles}
-use Rattle.step_world.specs.Seats.{IsAnswered, turn_of}
+use Rattle.step_world.specs.Scaffold.Mails.{CanReply, Handles}
+use Rattle.step_world.specs.Scaffold.Seats.{IsAnswered, turn_of}
 use Rattle.step_world.specs.Tellings.{Telling}
-use Rattle.step_world.specs.Worlds.{Driving, EachAt, IsMessage, IsProcess, Scene, Setting, next_actor, record_of, request_in, seat_steps, sendings_so_far, steps_in, steps_with, ways_of}
+use Rattle.step_world.specs.Scaffold.Worlds.{Driving, EachAt, IsMessage, IsProcess, Scene, Setting, next_actor, record_of, request_in, seat_steps, sendings_so_far, steps_in, steps_with, ways_of}
 use Rattle.step_world.specs.declared.processes.DiskProcess.{DiskProcess}
 use Rattle.step_world.specs.declared.seats.Seat.{Seat}
 use Rattle.step_world.specs.declared.seats.Turn.TheVariants as turn

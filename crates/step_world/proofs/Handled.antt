@@ -15,7 +15,7 @@ use Rattle.plans_laws.specs.Spelled.{CameSpelled}
 use Rattle.run_record.specs.Openings.{history_of, openings}
 use Rattle.driver_laws.specs.Moves.{IsNext, with_entry}
 use Rattle.step_world.specs.Tellings.{Telling}
-use Rattle.step_world.specs.Worlds.{Driving, Scene, Setting, record_of}
+use Rattle.step_world.specs.Scaffold.Worlds.{Driving, Scene, Setting, record_of}
 use Rattle.step_world.specs.declared.processes.DiskProcess.{DiskProcess}
 use Rattle.step_world.proofs.Marks.{no_mark}
 use Rattle.step_world.proofs.Places.{map_set}

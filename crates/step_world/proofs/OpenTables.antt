@@ -16,9 +16,9 @@ use Rattle.partition_map.specs.Map.{part_of}
 use Rattle.partition_state.specs.State.{State, new_cell, opening}
 use Rattle.run_record.specs.Openings.{openings_from, rows_in_part}
 use Rattle.serial_laws.proofs.Opened.{sound-opening}
-use Rattle.step_world.specs.Openings.{AreOpened, is_opened, table_openings}
+use Rattle.step_world.specs.Scaffold.Openings.{AreOpened, is_opened, table_openings}
 use Rattle.step_world.specs.declared.processes.DiskProcess.{DiskProcess}
-use Rattle.sql_base.proofs.Lists.{all-filter}
+use Rattle.sql_base.proofs.ListFacts.{all-filter}
 
 -- the keys of rows are those of their cells
 rise_rows : (table : TableDef) (rows : List (List Value)) → AreCells (map (new_cell table) rows) → Rise (map (key_of table) rows)

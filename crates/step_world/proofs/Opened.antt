@@ -21,10 +21,10 @@ use Rattle.run_record.specs.declared.records.RunRecord.{RunRecord}
 use Rattle.record_laws.specs.SoFar.{way_of}
 use Rattle.driver_laws.specs.Moves.{IsPosted, asked_so_far}
 use Rattle.record_laws.proofs.FiveFacts.{as_many}
-use Rattle.step_world.specs.Seats.{HasRequest, IsOut, IsSending, turn_of, turn_to, turn_with}
+use Rattle.step_world.specs.Scaffold.Seats.{HasRequest, IsOut, IsSending, turn_of, turn_to, turn_with}
 use Rattle.step_world.specs.declared.processes.DiskProcess.{DiskProcess}
 use Rattle.step_world.specs.declared.seats.Outgoing.{Outgoing}
-use Rattle.step_world.specs.Worlds.{Driving, Scene, Setting, Stands, record_of, request_in, ways_of}
+use Rattle.step_world.specs.Scaffold.Worlds.{Driving, Scene, Setting, Stands, record_of, request_in, ways_of}
 use Rattle.step_world.specs.declared.seats.Seat.{Seat}
 use Rattle.step_world.specs.declared.seats.Turn.{Turn}
 use Rattle.step_world.specs.declared.seats.Turn.TheVariants.{Send, Take, ServeByHand, Draw, Wait, Rest}

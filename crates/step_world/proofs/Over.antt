@@ -31,9 +31,9 @@ use Rattle.driver_laws.specs.Scheduling.{AtEach, Awaited, IsOldest, OfPartition,
 use Rattle.driver_laws.proofs.Carrying.{carried_whole}
 use Rattle.driver_laws.proofs.Scheduling.{scheduled_whole}
 use Rattle.step_world.specs.Runs.{AllCarried, with_rows}
-use Rattle.step_world.specs.Seats.{IsSending}
+use Rattle.step_world.specs.Scaffold.Seats.{IsSending}
 use Rattle.step_world.specs.Tellings.{Telling}
-use Rattle.step_world.specs.Worlds.{Driving, Scene, Setting, Stands, awaited_of, has_some, live_in, record_of, request_in, seat_steps, sendings_so_far, steps_in, steps_with, ways_of}
+use Rattle.step_world.specs.Scaffold.Worlds.{Driving, Scene, Setting, Stands, awaited_of, has_some, live_in, record_of, request_in, seat_steps, sendings_so_far, steps_in, steps_with, ways_of}
 use Rattle.step_world.specs.declared.processes.DiskProcess.{DiskProcess}
 use Rattle.step_world.specs.declared.seats.Seat.{Seat}
 use Rattle.step_world.proofs.Opened.{OpenSeat, log_at, opened_at, way_at}

@@ -4,7 +4,7 @@ use Rattle.std.specs.Prelude.{fold, filter, filter_map, slice_get, slice_set, �
 use Rattle.std.proofs.Common.{inl, inr}
 use Rattle.std.proofs.lemmas.List.Folds.{list_any-append}
 use Rattle.std.specs.List.{AllZip, AllByRecursion, list_any}
-use Rattle.step_world.specs.Worlds.{EachAt}
+use Rattle.step_world.specs.Scaffold.Worlds.{EachAt}
 
 pub same_or : (m n : ℕ) → (m ≡ n) ⊎ (m ≢ n)
 same_or zero zero = inl refl

@@ -23,7 +23,7 @@ use Rattle.record_laws.specs.SoFar.{way_of}
 use Rattle.driver_laws.specs.Moves.{MayAnswer}
 use Rattle.driver_laws.proofs.Picking.{answer_fits, picked}
 use Rattle.driver_laws.proofs.Waiting.{reply_is_kept}
-use Rattle.step_world.specs.Worlds.{Driving, IsProcess, Scene, Setting, live_in, record_of, request_in, steps_in, ways_of}
+use Rattle.step_world.specs.Scaffold.Worlds.{Driving, IsProcess, Scene, Setting, live_in, record_of, request_in, steps_in, ways_of}
 use Rattle.step_world.specs.Tellings.{Telling}
 use Rattle.step_world.specs.declared.processes.DiskProcess.{DiskProcess}
 use Rattle.step_world.specs.declared.seats.Seat.{Seat}

@@ -14,7 +14,7 @@ use Rattle.requester_fs.specs.Asking.{Asking}
 use Rattle.run_record.specs.Openings.{log_of}
 use Rattle.run_record.specs.declared.records.RunRecord.{RunRecord}
 use Rattle.step_world.specs.Runs.{AreNew, IsNew}
-use Rattle.step_world.specs.Worlds.{EachAt}
+use Rattle.step_world.specs.Scaffold.Worlds.{EachAt}
 
 -- one more at the end
 pub each_more : {A : Type 0} (P : ℕ → A → Type 0) (xs : List A) (x : A) → EachAt P xs → P (length xs) x → EachAt P (xs ++ x ∷ [])

@@ -25,9 +25,9 @@ use Rattle.driver_laws.specs.Scheduling.{Adds, Awaited, Lost, OfSession, Posted,
 use Rattle.driver_laws.proofs.Adding.{adds_send}
 use Rattle.driver_laws.proofs.Carrying.{carried_sent, passages_more}
 use Rattle.driver_laws.proofs.Starting.{other_acts}
-use Rattle.step_world.specs.Mails.{copies_of}
+use Rattle.step_world.specs.Scaffold.Mails.{copies_of}
 use Rattle.step_world.specs.Tellings.{HasTold, Telling}
-use Rattle.step_world.specs.Worlds.{Driving, EachAt, IsMessage, IsProcess, IsSeat, IsTold, Scene, Setting, Stands, WasPosted, awaited_by, awaited_of, has_some, next_actor, record_of, request_in, seat_steps, sendings_so_far, steps_in, ways_of}
+use Rattle.step_world.specs.Scaffold.Worlds.{Driving, EachAt, IsMessage, IsProcess, IsSeat, IsTold, Scene, Setting, Stands, WasPosted, awaited_by, awaited_of, has_some, next_actor, record_of, request_in, seat_steps, sendings_so_far, steps_in, ways_of}
 use Rattle.step_world.specs.declared.processes.DiskProcess.{DiskProcess}
 use Rattle.step_world.specs.declared.seats.Seat.{Seat}
 use Rattle.step_world.proofs.Acting.{next_scene, others_stay, own_steps, session_acts}

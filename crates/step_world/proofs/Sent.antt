@@ -28,9 +28,9 @@ use Rattle.driver_laws.specs.Scheduling.{Adds, Lost, OfSession, Sent, Step}
 use Rattle.driver_laws.proofs.Adding.{adds_failed}
 use Rattle.driver_laws.proofs.Carrying.{carried_taken}
 use Rattle.driver_laws.proofs.Moving.{taken}
-use Rattle.step_world.specs.Seats.{IsAnswered, IsSent, sent_by, turn_of}
+use Rattle.step_world.specs.Scaffold.Seats.{IsAnswered, IsSent, sent_by, turn_of}
 use Rattle.step_world.specs.Tellings.{HasTold, Telling}
-use Rattle.step_world.specs.Worlds.{Driving, EachAt, IsProcess, IsTold, Scene, Setting, Stands, awaited_by, awaited_of, next_actor, record_of, request_in, seat_steps, sendings_so_far, steps_in, steps_with, ways_of}
+use Rattle.step_world.specs.Scaffold.Worlds.{Driving, EachAt, IsProcess, IsTold, Scene, Setting, Stands, awaited_by, awaited_of, next_actor, record_of, request_in, seat_steps, sendings_so_far, steps_in, steps_with, ways_of}
 use Rattle.step_world.specs.declared.processes.DiskProcess.{DiskProcess}
 use Rattle.step_world.specs.declared.seats.Seat.{Seat}
 use Rattle.step_world.specs.declared.seats.Turn.TheVariants as turn

@@ -30,10 +30,10 @@ use Rattle.driver_laws.proofs.Carrying.{passages_more}
 use Rattle.driver_laws.proofs.Picking.{served_before}
 use Rattle.driver_laws.proofs.Scheduling.{acts_more}
 use Rattle.driver_laws.proofs.Starting.{other_acts}
-use Rattle.step_world.specs.Mails.{Handles, TakesOldest}
-use Rattle.step_world.specs.Seats.{is_open, served_at}
+use Rattle.step_world.specs.Scaffold.Mails.{Handles, TakesOldest}
+use Rattle.step_world.specs.Scaffold.Seats.{is_open, served_at}
 use Rattle.step_world.specs.Tellings.{Telling}
-use Rattle.step_world.specs.Worlds.{Driving, EachAt, IsMessage, IsProcess, IsSeat, Scene, Setting, WasPosted, awaited_of, has_some, live_in, next_actor, record_of, request_in, seat_steps, sendings_so_far, steps_in, ways_of}
+use Rattle.step_world.specs.Scaffold.Worlds.{Driving, EachAt, IsMessage, IsProcess, IsSeat, Scene, Setting, WasPosted, awaited_of, has_some, live_in, next_actor, record_of, request_in, seat_steps, sendings_so_far, steps_in, ways_of}
 use Rattle.step_world.specs.declared.processes.DiskProcess.{DiskProcess}
 use Rattle.step_world.specs.declared.processes.Sender.{Sender}
 use Rattle.step_world.specs.declared.seats.Seat.{Seat}

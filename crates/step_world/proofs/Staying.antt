@@ -18,7 +18,7 @@ use Rattle.driver_laws.specs.Moves.{IsPosted}
 use Rattle.driver_laws.specs.Scheduling.{Awaited, OfSession, Posted, actor_of, awaited, awaits, is_act_of, is_by, is_serve_of, mail_after, mailed}
 use Rattle.driver_laws.proofs.Carrying.{passages_more}
 use Rattle.step_world.specs.Tellings.{Telling}
-use Rattle.step_world.specs.Worlds.{IsMessage, IsProcess, IsSeat, IsTold, Setting, WasPosted, awaited_of, request_in, sendings_so_far}
+use Rattle.step_world.specs.Scaffold.Worlds.{IsMessage, IsProcess, IsSeat, IsTold, Setting, WasPosted, awaited_of, request_in, sendings_so_far}
 use Rattle.step_world.specs.declared.processes.DiskProcess.{DiskProcess}
 use Rattle.step_world.specs.declared.seats.Seat.{Seat}
 use Rattle.step_world.proofs.Places.{any_one, fold_one, zip_map}

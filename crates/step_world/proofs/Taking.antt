@@ -23,9 +23,9 @@ use Rattle.driver_laws.specs.Moves.{with_acts, with_log, with_way}
 use Rattle.driver_laws.proofs.Adding.{adds_take}
 use Rattle.driver_laws.proofs.Carrying.{carried_taken, passages_more}
 use Rattle.driver_laws.proofs.Moving.{taken}
-use Rattle.step_world.specs.Seats.{IsAnswered, turn_of}
+use Rattle.step_world.specs.Scaffold.Seats.{IsAnswered, turn_of}
 use Rattle.step_world.specs.Tellings.{Telling}
-use Rattle.step_world.specs.Worlds.{Driving, IsProcess, IsTold, Scene, Setting, next_actor, record_of, request_in, seat_steps, sendings_so_far, steps_in, steps_with, ways_of}
+use Rattle.step_world.specs.Scaffold.Worlds.{Driving, IsProcess, IsTold, Scene, Setting, next_actor, record_of, request_in, seat_steps, sendings_so_far, steps_in, steps_with, ways_of}
 use Rattle.step_world.specs.declared.processes.DiskProcess.{DiskProcess}
 use Rattle.step_world.specs.declared.seats.Seat.{Seat}
 use Rattle.step_world.specs.declared.seats.Turn.TheVariants as turn

@@ -2,7 +2,7 @@
 use Rattle.std.specs.Prelude.{ℕ, ◌-◌, List, [], ◌∷◌, option_map, slice_get, unwrap_or, Bool, true, false}
 use Rattle.driver_laws.specs.Scheduling.{Actor, OfPartition, OfSession}
 use Rattle.requester_fs.specs.Asking.{Asking}
-use Rattle.step_world.specs.Seats.{turn_of}
+use Rattle.step_world.specs.Scaffold.Seats.{turn_of}
 use Rattle.step_world.specs.declared.choosing.Agent.{Agent}
 use Rattle.step_world.specs.declared.choosing.Agent.TheVariants.{Session, Partition}
 use Rattle.step_world.specs.declared.processes.DiskProcess.{DiskProcess}

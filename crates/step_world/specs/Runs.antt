@@ -10,7 +10,7 @@ use Rattle.driver_laws.specs.Carrying.{Carried}
 use Rattle.driver_laws.specs.Scheduling.{Actor}
 use Rattle.step_world.specs.Choosing.{acts_at, mail_at}
 use Rattle.step_world.specs.Tellings.{Telling}
-use Rattle.step_world.specs.Worlds.{Driving, EachAt, Scene, Setting, next_actor, record_of}
+use Rattle.step_world.specs.Scaffold.Worlds.{Driving, EachAt, Scene, Setting, next_actor, record_of}
 use Rattle.step_world.specs.declared.choosing.Agent.{Agent}
 use Rattle.step_world.specs.declared.choosing.Agent.TheVariants.{Session, Partition}
 use Rattle.step_world.specs.declared.seats.Seat.{Seat}

@@ -5,7 +5,7 @@ ghost use Rattle.std.specs.List.{AllByRecursion};
 ghost use Rattle.driver_laws.specs.Scheduling.{OfPartition, OfSession};
 ghost use Rattle.step_world.specs.Tellings.{Telling};
 ghost use Rattle.step_world.specs.declared.seats.Turn.{Turn};
-ghost use Rattle.step_world.specs.Worlds.{AreLater, Driving, GoesOn, GoesOnWith, HasMail, Setting, TurnAt, scene};
+ghost use Rattle.step_world.specs.Scaffold.Worlds.{AreLater, Driving, GoesOn, GoesOnWith, HasMail, Setting, TurnAt, scene};
 
 use crate::seats::Outgoing;
 use crate::worlds::World;

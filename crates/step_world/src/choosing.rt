@@ -3,8 +3,8 @@ ghost use Rattle.std.specs.Prelude.{◌≡◌, ◌++◌, IfOk, OnOk, map, filter
 ghost use Rattle.std.specs.List.{range_with_len};
 ghost use Rattle.driver_laws.specs.Scheduling.{OfPartition, OfSession, chosen_of};
 ghost use Rattle.step_world.specs.Choosing.{acts_at, actor_seen, has_mail, is_acting, mail_at};
-ghost use Rattle.step_world.specs.Seats.{seen, turn_of};
-ghost use Rattle.step_world.specs.Worlds.{scene};
+ghost use Rattle.step_world.specs.Scaffold.Seats.{seen, turn_of};
+ghost use Rattle.step_world.specs.Scaffold.Worlds.{scene};
 
 use crate::processes::DiskProcess;
 use crate::seats::{Seat, Turn};

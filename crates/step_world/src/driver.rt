@@ -9,7 +9,7 @@ ghost use Rattle.step_world.specs.Choosing.{actor_seen};
 ghost use Rattle.step_world.specs.Runs.{AllCarried, AreNew, AreSeated, CanAct, GoesOnFrom};
 ghost use Rattle.step_world.specs.Tellings.{HasTold, Telling};
 ghost use Rattle.step_world.specs.declared.choosing.Agent.{Agent};
-ghost use Rattle.step_world.specs.Worlds.{AreLater, Driving, Setting, scene};
+ghost use Rattle.step_world.specs.Scaffold.Worlds.{AreLater, Driving, Setting, scene};
 
 use crate::choosing::Agent;
 use crate::ending::record;

@@ -4,7 +4,7 @@ ghost use Rattle.std.specs.List.{AllByRecursion, AllZip};
 ghost use Rattle.partition_core.specs.Kept.{rows_in};
 ghost use Rattle.session_grammar.specs.UnderWay.{Awaiting};
 ghost use Rattle.step_world.specs.Runs.{with_rows};
-ghost use Rattle.step_world.specs.Worlds.{scene};
+ghost use Rattle.step_world.specs.Scaffold.Worlds.{scene};
 
 use crate::processes::DiskProcess;
 use crate::seats::Seat;

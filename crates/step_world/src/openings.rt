@@ -7,7 +7,7 @@ ghost use Rattle.sql_base.specs.Tables.{IsTable};
 ghost use Rattle.partition_state.specs.State.{State};
 ghost use Rattle.one_thread.specs.One.{load_rows};
 ghost use Rattle.run_record.specs.Openings.{openings, rows_in_part};
-ghost use Rattle.step_world.specs.Openings.{AreOpened, table_openings};
+ghost use Rattle.step_world.specs.Scaffold.Openings.{AreOpened, table_openings};
 
 use crate::processes::DiskProcess;
 use partition_core::Partition;

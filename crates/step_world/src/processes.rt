@@ -3,7 +3,7 @@ ghost use Rattle.std.specs.Prelude.{◌≡◌, ◌≢◌, ◌<◌, ◌++◌, ◌
 ghost use Rattle.sql_base.specs.Scripts.{Lies};
 ghost use Rattle.dp_messages.specs.Spelling.{IsEnvelope, request_bytes};
 ghost use Rattle.partition_core.specs.Kept.{opener_in};
-ghost use Rattle.step_world.specs.Mails.{CanReply, Handles, TakesOldest, copies_of};
+ghost use Rattle.step_world.specs.Scaffold.Mails.{CanReply, Handles, TakesOldest, copies_of};
 
 use dp_messages::{Envelope, Message, Reply, Request, decode_request, encode_request};
 use outside::Passage;

@@ -5,7 +5,7 @@ ghost use Rattle.outside.specs.Wire.{is_loss};
 ghost use Rattle.session_grammar.specs.Rows.{is_end};
 ghost use Rattle.session_grammar.specs.Sessions.{MayCome, Sends, Draws, fits_next};
 ghost use Rattle.requester_fs.specs.Asking.{IsAsking, IsSpelled, next_at};
-ghost use Rattle.step_world.specs.Seats.{IsAnswered, IsSent, HasRequest, IsAwaited, IsOut, MayFail, is_open, seen, served_at, turn_of, turn_with};
+ghost use Rattle.step_world.specs.Scaffold.Seats.{IsAnswered, IsSent, HasRequest, IsAwaited, IsOut, MayFail, is_open, seen, served_at, turn_of, turn_with};
 
 use crate::paths::is_loss;
 use dp_messages::{Ask, Envelope, Reply, Request};

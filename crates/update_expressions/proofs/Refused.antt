@@ -12,7 +12,7 @@ use Rattle.sql_base.specs.declared.statements.Assign.{Assign}
 use Rattle.sql_base.specs.declared.tables.ColumnKind.{ColumnKind}
 use Rattle.sql_base.specs.declared.tables.ColumnKind.TheVariants.{Int, Char}
 use Rattle.sql_base.specs.declared.tables.TableDef.{TableDef}
-use Rattle.update_expressions.specs.Refusing.{AreTyped, misfit, fault_in, fault_of, fault_behind, first_fault}
+use Rattle.update_expressions.specs.Refusing.{AreTyped, misfit, fault_in, set_fault, fault_behind, first_set_fault}
 use Rattle.update_expressions.specs.declared.faults.SetFault.{SetFault}
 use Rattle.update_expressions.specs.declared.faults.SetFault.TheVariants.{TextTooLong}
 use Rattle.update_expressions.proofs.Differing.{any-map, differ-push}
@@ -40,7 +40,7 @@ module _ (table : TableDef) where
   abbrev pub IsTyped : Assign → Type 0
   IsTyped set = (kind : Kind) × IsExpr table kind set.value
 
-  unrefused : (before : List Assign) (set : Assign) → IsTyped set → fault_of table before set ≡ None → IsAssign table set × (list_any (λ (s : Assign). nat_eq s.column set.column) before ≡ false)
+  unrefused : (before : List Assign) (set : Assign) → IsTyped set → set_fault table before set ≡ None → IsAssign table set × (list_any (λ (s : Assign). nat_eq s.column set.column) before ≡ false)
   unrefused before set is e = by (slice_get (kinds table) set.column) refl e
     where
       by : (o : Option ColumnKind) → slice_get (kinds table) set.column ≡ o → fault_in table before set o ≡ None → IsAssign table set × (list_any (λ (s : Assign). nat_eq s.column set.column) before ≡ false)
@@ -55,7 +55,7 @@ module _ (table : TableDef) where
       → AllByRecursion (IsAssign table) sets × (all_differ nat_eq (map column_of (before ++ sets)) ≡ true)
   all_unrefused before [] differ typed none = (tt, ap (λ (sets : List Assign). all_differ nat_eq (map column_of sets)) (append-nil before) ∙ differ)
   all_unrefused before (set ∷ sets) differ typed none =
-      let parts = or_none (fault_of table before set) (fault_behind table (before ++ set ∷ []) sets) none in
+      let parts = or_none (set_fault table before set) (fault_behind table (before ++ set ∷ []) sets) none in
       let one = unrefused before set typed.0 parts.0 in
       let new : list_any (λ x. nat_eq x set.column) (map column_of before) ≡ false = sym (any-map column_of (λ x. nat_eq x set.column) before) ∙ one.1 in
       let more = all_unrefused (before ++ set ∷ []) sets
@@ -63,17 +63,17 @@ module _ (table : TableDef) where
       typed.1 parts.1 in
       ((one.0, more.0), ap (λ (xs : List Assign). all_differ nat_eq (map column_of xs)) (sym (append_assoc before (set ∷ []) sets)) ∙ more.1)
 
-  pub are_sets : (sets : List Assign) → AreTyped table sets → first_fault table sets ≡ None → AreSets table sets
+  pub are_sets : (sets : List Assign) → AreTyped table sets → first_set_fault table sets ≡ None → AreSets table sets
   are_sets sets typed none =
       let all = all_unrefused [] sets refl typed.each none in
       record { some = typed.some; each = all.0; differ = all.1; code = typed.code }
 
   -- the assignment at a place, and those behind it
   pub fault_at : (sets : List Assign) (i : ℕ) (set : Assign) → i < length sets → set ≡ get_or sets i set
-      → fault_behind table (take i sets) (drop i sets) ≡ option_or (fault_of table (take i sets) set) (fault_behind table (take (i + 1) sets) (drop (i + 1) sets))
+      → fault_behind table (take i sets) (drop i sets) ≡ option_or (set_fault table (take i sets) set) (fault_behind table (take (i + 1) sets) (drop (i + 1) sets))
   fault_at sets i set within is =
       ap (fault_behind table (take i sets)) (drop_more sets i set within ∙ ap (λ (s : Assign). s ∷ drop (i + 1) sets) (sym is))
-      ∙ ap (λ (before : List Assign). option_or (fault_of table (take i sets) set) (fault_behind table before (drop (i + 1) sets)))
+      ∙ ap (λ (before : List Assign). option_or (set_fault table (take i sets) set) (fault_behind table before (drop (i + 1) sets)))
       (ap (λ (s : Assign). take i sets ++ s ∷ []) is ∙ sym (take_more sets i set within))
 
 pub or-some : (a b : Option SetFault) (fault : SetFault) → a ≡ Some fault → option_or a b ≡ Some fault

@@ -39,13 +39,13 @@ fault_in table before set (Some column) =
     then Some (Twice (length before))
     else misfit (length before) column (kind_of table set.value)
 
-abbrev pub fault_of : TableDef → List Assign → Assign → Option SetFault
-fault_of table before set = fault_in table before set (slice_get (kinds table) set.column)
+abbrev pub set_fault : TableDef → List Assign → Assign → Option SetFault
+set_fault table before set = fault_in table before set (slice_get (kinds table) set.column)
 
 -- the fault of the first assignment that has one
 abbrev pub fault_behind : TableDef → List Assign → List Assign → Option SetFault
 fault_behind table before [] = None
-fault_behind table before (set ∷ sets) = option_or (fault_of table before set) (fault_behind table (before ++ set ∷ []) sets)
+fault_behind table before (set ∷ sets) = option_or (set_fault table before set) (fault_behind table (before ++ set ∷ []) sets)
 
-abbrev pub first_fault : TableDef → List Assign → Option SetFault
-first_fault table sets = fault_behind table [] sets
+abbrev pub first_set_fault : TableDef → List Assign → Option SetFault
+first_set_fault table sets = fault_behind table [] sets

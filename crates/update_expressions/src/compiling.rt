@@ -3,7 +3,7 @@
 ghost use Rattle.std.specs.Prelude.{◌≡◌, ◌≢◌, ◌≤◌, ◌<◌, ◌++◌, length, Err, IfOk, OnOk, Some};
 ghost use Rattle.sql_base.specs.Codes.{sets_code};
 ghost use Rattle.sql_base.specs.Tables.{AreSets};
-ghost use Rattle.update_expressions.specs.Refusing.{AreTyped, first_fault};
+ghost use Rattle.update_expressions.specs.Refusing.{AreTyped, first_set_fault};
 
 use crate::faults::{SetFault, fault_of};
 use predicate_runner::{append_counted, compile};
@@ -16,7 +16,7 @@ pub fn compile_sets(alloc: Global, sets: &List<Assign>, table: &TableDef) -> Res
     requires sets { AreTyped table.now sets.now }
     ensures sets { IfOk result (λ _. AreSets table.now sets.now) }
     ensures code { IfOk result (λ code. code ≡ sets_code sets.now) }
-    ensures refused { (fault : SetFault) → result ≡ Err fault → fault ≢ SetFault.NoMemory → first_fault table.now sets.now ≡ Some fault }
+    ensures refused { (fault : SetFault) → result ≡ Err fault → fault ≢ SetFault.NoMemory → first_set_fault table.now sets.now ≡ Some fault }
 {
     let sets = sets.items();
     for place in 0..sets.len() {

@@ -5,7 +5,7 @@ ghost use Rattle.std.specs.List.{list_any};
 ghost use Rattle.sql_base.specs.Rows.{kinds};
 ghost use Rattle.sql_base.specs.declared.statements.Assign.{Assign};
 ghost use Rattle.predicate_runner.specs.Outlines.{kind_in};
-ghost use Rattle.update_expressions.specs.Refusing.{fault_of, misfit};
+ghost use Rattle.update_expressions.specs.Refusing.{set_fault, misfit};
 
 use predicate_runner::{ExprKind, kind_of};
 use sql_base::{Assign, ColumnKind, NoMemory, TableDef};
@@ -39,7 +39,7 @@ impl From<NoMemory> for SetFault {
 /// The first of the five faults that an assignment behind others has.
 pub fn fault_of(before: &[Assign], set: &Assign, table: &TableDef) -> Option<SetFault>
     requires few { length before.now < 2 ^ 32 }
-    ensures { result ≡ fault_of table.now before.now set.now }
+    ensures { result ≡ set_fault table.now before.now set.now }
 {
     let place = before.len() as u32;
     let Some(column) = column_kind(table, set.column) else {

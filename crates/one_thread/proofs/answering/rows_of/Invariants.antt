@@ -1,5 +1,5 @@
 use Rattle.std.proofs.Common.{◌≡◌, map, take}
-use Rattle.one_thread.specs.Cells.{nows}
+use Rattle.one_thread.specs.Scaffold.Cells.{nows}
 use Rattle.one_thread.proofs.answering.rows_of.Given as goal
 
 -- the tables so far

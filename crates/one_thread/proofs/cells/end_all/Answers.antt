@@ -1,4 +1,4 @@
-use Rattle.one_thread.specs.Cells.{ended}
+use Rattle.one_thread.specs.Scaffold.Cells.{ended}
 use Rattle.one_thread.proofs.Written.{written}
 use Rattle.one_thread.proofs.cells.end_all.Goals as goal
 

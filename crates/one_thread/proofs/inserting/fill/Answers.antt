@@ -1,6 +1,6 @@
 use Rattle.std.proofs.Common.{Some, ap, sym, ◌∙◌, subst}
-use Rattle.one_thread.specs.Cells.{replaced}
-use Rattle.one_thread.specs.Inserting.{filled, Finds}
+use Rattle.one_thread.specs.Scaffold.Cells.{replaced}
+use Rattle.one_thread.specs.Scaffold.Inserting.{filled, Finds}
 use Rattle.one_thread.proofs.Spots.{put_there}
 use Rattle.one_thread.proofs.inserting.fill.Goals as goal
 

@@ -1,6 +1,6 @@
 use Rattle.std.proofs.Common.{rules, ◌≡◌, Some, None, refl, ap, sym, ◌∙◌, subst}
 use Rattle.sql_base.specs.OnRows.{first_failing}
-use Rattle.one_thread.specs.Inserting.{Finds, Inserted}
+use Rattle.one_thread.specs.Scaffold.Inserting.{Finds, Inserted}
 use Rattle.one_thread.proofs.Spots.{fails_at, filled_at, taken_at}
 use Rattle.one_thread.proofs.inserting.insert_row.Goals as goal
 
@@ -28,5 +28,5 @@ returns c =
     let row = c.args.row.now in
     let found : Finds key cells spot = subst (λ k. Finds k cells spot) c.bytes.ensures (subst (λ cs. Finds c.bytes.result.now cs spot) c.as_slice.ensures.value c.spot_of-spot.ensures) in
     let passes : first_failing c.args.table.now.checks row ≡ None = search rules in
-    subst (Inserted c.args.table.now row cells) (sym (c.in_ok-fill.ensures ∙ ap (λ r. Rattle.one_thread.specs.Inserting.filled key r spot cells) c.in_ok-copied.ensures))
+    subst (Inserted c.args.table.now row cells) (sym (c.in_ok-fill.ensures ∙ ap (λ r. Rattle.one_thread.specs.Scaffold.Inserting.filled key r spot cells) c.in_ok-copied.ensures))
     (filled_at c.args.table.now row key cells spot c.in_default.not-Taken c.in_ok-key.ensures c.requires.row c.requires.now found passes)

@@ -1,5 +1,5 @@
 use Rattle.std.proofs.Common.{rules, ◌≡◌, ◌<◌, ◌+◌, ◌∷◌, ◌++◌, [], length, map, get_or, ap, sym, ◌∙◌, subst}
-use Rattle.one_thread.specs.Loading.{cell_of, Opens}
+use Rattle.one_thread.specs.Scaffold.Loading.{cell_of, Opens}
 use Rattle.one_thread.specs.One.{load_rows}
 use Rattle.one_thread.proofs.Loaded.{opens}
 use Rattle.one_thread.proofs.loading.load.Goals as goal

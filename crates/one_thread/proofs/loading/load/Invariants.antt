@@ -1,4 +1,4 @@
-use Rattle.one_thread.specs.Loading.{Opens}
+use Rattle.one_thread.specs.Scaffold.Loading.{Opens}
 use Rattle.one_thread.proofs.loading.load.Given as goal
 
 -- the tables so far

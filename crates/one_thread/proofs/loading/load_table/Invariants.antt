@@ -1,5 +1,5 @@
 use Rattle.std.proofs.Common.{◌≡◌, map, take}
-use Rattle.one_thread.specs.Loading.{cell_of}
+use Rattle.one_thread.specs.Scaffold.Loading.{cell_of}
 use Rattle.one_thread.specs.One.{load_rows}
 use Rattle.one_thread.proofs.loading.load_table.Given as goal
 

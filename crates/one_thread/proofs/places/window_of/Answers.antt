@@ -1,7 +1,7 @@
 use Rattle.std.proofs.Common.{◌≡◌, true, false, subst, sym, arith}
 use Rattle.std.specs.List.Sorted.{IsPartitionPoint}
 use Rattle.sql_base.specs.Keys.{key_le, key_lt}
-use Rattle.one_thread.specs.Windows.{IsWindow}
+use Rattle.one_thread.specs.Scaffold.Windows.{IsWindow}
 use Rattle.one_thread.proofs.Rising.{window_is}
 use Rattle.one_thread.proofs.places.window_of.Goals as goal
 

@@ -1,5 +1,5 @@
 use Rattle.std.proofs.Common.{◌≡◌, ◌+◌, cond, Ok, None, ap, sym, subst, ◌∙◌, get_or, arith}
-use Rattle.one_thread.specs.Scans.{change_abort, changed, is_changed, ChangesOne}
+use Rattle.one_thread.specs.Scaffold.Scans.{change_abort, changed, is_changed, ChangesOne}
 use Rattle.one_thread.proofs.Passing.{abort_more, counted_more, at_most_one}
 use Rattle.one_thread.proofs.Written.{not_yet, written}
 use Rattle.one_thread.proofs.scans.change_cells.Goals as goal

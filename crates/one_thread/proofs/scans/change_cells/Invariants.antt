@@ -1,6 +1,6 @@
 use Rattle.std.proofs.Common.{◌≡◌, ◌≤◌, ◌++◌, drop, map, take}
 use Rattle.std.specs.Prelude.{count_by}
-use Rattle.one_thread.specs.Scans.{change_abort, changed, first_abort, is_changed}
+use Rattle.one_thread.specs.Scaffold.Scans.{change_abort, changed, first_abort, is_changed}
 use Rattle.one_thread.proofs.scans.change_cells.Given as goal
 
 -- the cells so far are changed, and none of them fails

@@ -1,6 +1,6 @@
 use Rattle.std.proofs.Common.{◌++◌, [], Ok, ap, sym, subst, ◌∙◌, take, get_or}
 use Rattle.std.specs.List.{cons_option, filter_map}
-use Rattle.one_thread.specs.Scans.{read_abort, shown, ReadsOne}
+use Rattle.one_thread.specs.Scaffold.Scans.{read_abort, shown, ReadsOne}
 use Rattle.one_thread.proofs.Passing.{abort_more, filter_map_more}
 use Rattle.one_thread.proofs.scans.read_cells.Goals as goal
 

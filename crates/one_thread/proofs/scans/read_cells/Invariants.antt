@@ -1,6 +1,6 @@
 use Rattle.std.proofs.Common.{◌≡◌, drop, take}
 use Rattle.std.specs.List.{filter_map}
-use Rattle.one_thread.specs.Scans.{first_abort, read_abort, shown}
+use Rattle.one_thread.specs.Scaffold.Scans.{first_abort, read_abort, shown}
 use Rattle.one_thread.proofs.scans.read_cells.Given as goal
 
 -- the cells so far are read, and none of them fails

@@ -1,7 +1,7 @@
 use Rattle.std.proofs.Common.{◌≡◌, ap, ◌∙◌, subst}
 use Rattle.range_finder.specs.Range.{range}
 use Rattle.one_thread.specs.One.{predicate_of}
-use Rattle.one_thread.specs.Scans.{ChangesIn}
+use Rattle.one_thread.specs.Scaffold.Scans.{ChangesIn}
 use Rattle.one_thread.proofs.Doing.{change_done, change_fails}
 use Rattle.one_thread.proofs.statements.change.Goals as goal
 

@@ -1,10 +1,10 @@
 use Rattle.std.proofs.Common.{◌≡◌, ◌-◌, ◌++◌, take, drop, ap, sym, ◌∙◌, subst}
 use Rattle.std.specs.Prelude.{IfOk}
 use Rattle.std.specs.List.{AllByRecursion}
-use Rattle.one_thread.specs.Scans.{HasColumns, Reads}
+use Rattle.one_thread.specs.Scaffold.Scans.{HasColumns, ScansRows}
 use Rattle.one_thread.proofs.Splitting.{have_columns, reads_in, splits}
 use Rattle.one_thread.proofs.statements.read_range.Goals as goal
-use Rattle.sql_base.proofs.Lists.{all_left, all_right}
+use Rattle.sql_base.proofs.ListFacts.{all_left, all_right}
 
 pub read_cells-requires : goal.read_cells-requires
 read_cells-requires c =
@@ -25,4 +25,4 @@ returns c =
     let n = c.window_of-window.result.end - first in
     let inside : c.split_at-2.result.0.now ≡ take n (drop first cells) = c.split_at-2.ensures.front ∙ ap (take n) c.split_at.ensures.back in
     reads_in c.args.columns.now c.args.filter.now c.args.range.now cells first c.window_of-window.result.end c.window_of-window.ensures c.read_cells.result
-    (subst (λ cs. IfOk c.read_cells.result (λ came. Reads c.args.columns.now c.args.filter.now cs came)) inside c.read_cells.ensures)
+    (subst (λ cs. IfOk c.read_cells.result (λ came. ScansRows c.args.columns.now c.args.filter.now cs came)) inside c.read_cells.ensures)

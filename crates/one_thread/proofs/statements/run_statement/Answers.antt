@@ -1,6 +1,6 @@
 use Rattle.std.proofs.Common.{subst}
 use Rattle.std.specs.Prelude.{IfOk}
-use Rattle.one_thread.specs.Statements.{Selects}
+use Rattle.one_thread.specs.Scaffold.Statements.{Selects}
 use Rattle.one_thread.proofs.Doing.{does}
 use Rattle.one_thread.proofs.statements.run_statement.Goals as goal
 

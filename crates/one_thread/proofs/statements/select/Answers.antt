@@ -1,9 +1,9 @@
 use Rattle.std.proofs.Common.{◌≡◌, Ok, ap, sym, ◌∙◌, subst}
 use Rattle.sql_base.specs.declared.outcomes.Given.TheVariants.{Rows}
 use Rattle.range_finder.specs.Range.{range}
-use Rattle.one_thread.specs.Cells.{nows}
+use Rattle.one_thread.specs.Scaffold.Cells.{nows}
 use Rattle.one_thread.specs.One.{Done}
-use Rattle.one_thread.specs.Scans.{ReadsIn}
+use Rattle.one_thread.specs.Scaffold.Scans.{ReadsIn}
 use Rattle.one_thread.proofs.Doing.{select_done, select_fails}
 use Rattle.one_thread.proofs.statements.select.Goals as goal
 

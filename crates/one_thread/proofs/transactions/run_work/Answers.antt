@@ -1,8 +1,8 @@
 use Rattle.std.proofs.Common.{rules, ◌≡◌, ◌∷◌, [], ◌<◌, ◌≤◌, ◌+◌, Err, length, drop, get_or, refl, ap, sym, ◌∙◌, subst}
 use Rattle.std.proofs.lemmas.List.{drop_all, drop_more}
 use Rattle.sql_base.specs.declared.outcomes.Outcome.TheVariants.{Aborted}
-use Rattle.one_thread.specs.Runs.{IsRun}
-use Rattle.one_thread.specs.Worlds.{Moves}
+use Rattle.one_thread.specs.Scaffold.Runs.{RunsWork}
+use Rattle.one_thread.specs.Scaffold.Worlds.{Moves}
 use Rattle.one_thread.proofs.Running.{aborts, finishes, Running}
 use Rattle.one_thread.proofs.transactions.run_work.Goals as goal
 
@@ -23,8 +23,8 @@ returns-in-Err c =
     subst (Running tables work old world given) (drop_more work.statements i d lt ∙ ap (λ s. s ∷ drop (i + 1) work.statements) (sym is)) c.loop-statement.invariant in
     let moved : Moves tables d world new (Err abort) = subst (Moves tables d world new) c.in-Err.is c.in_ok-item.ensures in
     let done = aborts tables work c.args.stamp old world new given d (drop (i + 1) work.statements) abort running moved in
-    subst (λ gs. IsRun tables work c.args.stamp old c.end_world.new.world (record { outcome = Aborted abort; given = gs })) (sym c.new-given-in-Err.ensures)
-    (subst (λ w. IsRun tables work c.args.stamp old w (record { outcome = Aborted abort; given = [] })) (sym c.end_world.ensures) done)
+    subst (λ gs. RunsWork tables work c.args.stamp old c.end_world.new.world (record { outcome = Aborted abort; given = gs })) (sym c.new-given-in-Err.ensures)
+    (subst (λ w. RunsWork tables work c.args.stamp old w (record { outcome = Aborted abort; given = [] })) (sym c.end_world.ensures) done)
 
 pub returns : goal.returns
 returns c =
@@ -36,4 +36,4 @@ returns c =
     let past : length work.statements ≤ c.loop-statement.statement-index = search rules in
     let none : drop c.loop-statement.statement-index work.statements ≡ [] = drop_all c.loop-statement.statement-index work.statements past in
     let done = finishes tables work c.args.stamp old world given (record { outcome = c.ended_as-outcome.result; given = given }) work.commit (subst (Running tables work old world given) none c.loop-statement.invariant) refl c.ended_as-outcome.ensures refl in
-    subst (λ w. IsRun tables work c.args.stamp old w (record { outcome = c.ended_as-outcome.result; given = given })) (sym c.end_world-2.ensures) done
+    subst (λ w. RunsWork tables work c.args.stamp old w (record { outcome = c.ended_as-outcome.result; given = given })) (sym c.end_world-2.ensures) done

@@ -1,5 +1,5 @@
 use Rattle.std.proofs.Common.{◌≡◌, map}
-use Rattle.one_thread.specs.Cells.{ended}
+use Rattle.one_thread.specs.Scaffold.Cells.{ended}
 use Rattle.one_thread.proofs.Written.{so_far}
 use Rattle.one_thread.proofs.worlds.end_world.Given as goal
 

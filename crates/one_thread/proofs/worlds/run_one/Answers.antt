@@ -2,9 +2,9 @@ use Rattle.std.proofs.Common.{rules, ◌≡◌, ◌<◌, [], length, get_or, Som
 use Rattle.std.specs.Prelude.{slice_get, slice_set}
 use Rattle.std.proofs.lemmas.Option.{slice_get_read}
 use Rattle.sql_base.specs.Tables.{table_of, SuitsTable}
-use Rattle.one_thread.specs.Cells.{now_of}
-use Rattle.one_thread.specs.Statements.{Does}
-use Rattle.one_thread.specs.Worlds.{Moves}
+use Rattle.one_thread.specs.Scaffold.Cells.{now_of}
+use Rattle.one_thread.specs.Scaffold.Statements.{Does}
+use Rattle.one_thread.specs.Scaffold.Worlds.{Moves}
 use Rattle.one_thread.proofs.Moving.{all_at, moves}
 use Rattle.one_thread.proofs.worlds.run_one.Goals as goal
 

@@ -1,6 +1,6 @@
 use Rattle.std.proofs.Common.{[], ap, sym, ◌∙◌}
 use Rattle.predicate_runner.specs.Items.{outcome_in}
-use Rattle.predicate_runner.specs.Running.{running}
+use Rattle.predicate_runner.specs.Scaffold.Running.{running}
 use Rattle.predicate_runner.proofs.Runs.{running-code, never_nothing}
 use Rattle.predicate_runner.proofs.running.run.Goals as goal
 

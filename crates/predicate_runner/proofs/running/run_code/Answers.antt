@@ -2,7 +2,7 @@ use Rattle.std.proofs.Common.{rules, ◌≡◌, ◌∷◌, ℕ, Some, Option, Re
 use Rattle.std.proofs.lemmas.List.{take_rest}
 use Rattle.sql_base.specs.declared.faults.EvalFault.{EvalFault}
 use Rattle.predicate_runner.specs.Items.{Came, items_in}
-use Rattle.predicate_runner.specs.Running.{ran, running}
+use Rattle.predicate_runner.specs.Scaffold.Running.{ran, running}
 use Rattle.predicate_runner.proofs.Runs.{running-goes}
 use Rattle.predicate_runner.proofs.running.run_code.Goals as goal
 

@@ -1,6 +1,6 @@
 use Rattle.std.proofs.Common.{◌≡◌, [], length}
 use Rattle.predicate_runner.specs.Items.{items_in}
-use Rattle.predicate_runner.specs.Running.{running}
+use Rattle.predicate_runner.specs.Scaffold.Running.{running}
 use Rattle.predicate_runner.proofs.running.run_code.Given as goal
 
 -- what the rest of the code comes to is what the whole comes to

@@ -1,6 +1,6 @@
 use Rattle.std.proofs.Common.{length, sym, ap, ◌∙◌, arith}
 use Rattle.std.specs.Vec.Iter.{into_iter_items}
-use Rattle.quantum_runner.specs.Plans.{granted_by, rewritten_by}
+use Rattle.quantum_runner.specs.Scaffold.Plans.{granted_by, rewritten_by}
 use Rattle.quantum_runner.proofs.stores.carry_out.Goals as goal
 
 pub make-requires : goal.make-requires

@@ -1,6 +1,6 @@
 use Rattle.std.proofs.Common.{◌≡◌, ◌<◌, length}
 use Rattle.std.specs.Vec.Iter.{into_iter_items}
-use Rattle.quantum_runner.specs.Plans.{granted_by, rewritten_by}
+use Rattle.quantum_runner.specs.Scaffold.Plans.{granted_by, rewritten_by}
 use Rattle.quantum_runner.proofs.stores.carry_out.Given as goal
 
 -- the rest of the changes gives what all give, and there is room for it

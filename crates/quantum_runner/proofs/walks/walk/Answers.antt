@@ -1,7 +1,7 @@
 use Rattle.std.proofs.Common.{◌≡◌, ◌<◌, ◌∙◌, sym, ap, arith, true, false, refl}
 use Rattle.std.specs.Option.{option_copied}
 use Rattle.quantum_core.specs.declared.verdicts.Verdict.TheVariants.{PassedOver}
-use Rattle.quantum_runner.specs.Plans.{halted}
+use Rattle.quantum_runner.specs.Scaffold.Plans.{halted}
 use Rattle.quantum_runner.proofs.Walking.{IsAt, end_at, if_both, more_at, stop_at_verdict, stop_at_visits}
 use Rattle.quantum_runner.proofs.walks.walk.Goals as goal
 

@@ -4,7 +4,7 @@ use Rattle.std.proofs.lemmas.List.{length-map}
 use Rattle.sql_base.specs.Rows.{kinds}
 use Rattle.sql_base.specs.declared.tables.Column.{Column}
 use Rattle.sql_base.proofs.KeyColumns.{are_of_kinds-length}
-use Rattle.quantum_runner.specs.Works.{IsDoing, doing_in}
+use Rattle.quantum_runner.specs.Scaffold.Works.{IsDoing, doing_in}
 use Rattle.quantum_runner.proofs.works.effect.Goals as goal
 
 pub give-requires : goal.give-requires

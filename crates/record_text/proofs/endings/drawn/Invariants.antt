@@ -1,5 +1,5 @@
 use Rattle.std.proofs.Common.{◌≡◌, drop}
-use Rattle.record_text.specs.Reading.{drawn}
+use Rattle.record_text.specs.Scaffold.Reading.{drawn}
 use Rattle.record_text.proofs.endings.drawn.Given as goal
 
 -- what is left decides

@@ -1,5 +1,5 @@
 use Rattle.std.proofs.Common.{rules, ◌<◌, sym, ◌∙◌}
-use Rattle.record_text.specs.Reading.{most_parts}
+use Rattle.record_text.specs.Scaffold.Reading.{most_parts}
 use Rattle.record_text.proofs.Loops.{failed-here, failed-later}
 use Rattle.record_text.proofs.endings.first_failure.Goals as goal
 

@@ -1,6 +1,6 @@
 use Rattle.std.proofs.Common.{◌≡◌, ◌-◌}
 use Rattle.std.specs.List.{range_with_len}
-use Rattle.record_text.specs.Reading.{first_failure, most_parts}
+use Rattle.record_text.specs.Scaffold.Reading.{first_failure, most_parts}
 use Rattle.record_text.proofs.endings.first_failure.Given as goal
 
 -- none below failed

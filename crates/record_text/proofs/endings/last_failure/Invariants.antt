@@ -1,5 +1,5 @@
 use Rattle.std.proofs.Common.{◌≡◌, None, drop}
-use Rattle.record_text.specs.Reading.{last_failure}
+use Rattle.record_text.specs.Scaffold.Reading.{last_failure}
 use Rattle.record_text.proofs.endings.last_failure.Given as goal
 
 -- with what is found so far, what is left decides

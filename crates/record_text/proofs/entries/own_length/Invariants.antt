@@ -1,5 +1,5 @@
 use Rattle.std.proofs.Common.{◌≡◌, ◌+◌, drop}
-use Rattle.record_text.specs.Reading.{own_length}
+use Rattle.record_text.specs.Scaffold.Reading.{own_length}
 use Rattle.record_text.proofs.entries.own_length.Given as goal
 
 -- all so far are own, and what is left begins with the rest of them

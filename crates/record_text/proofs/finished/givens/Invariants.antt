@@ -1,6 +1,6 @@
 use Rattle.std.proofs.Common.{◌≡◌, ◌++◌, drop}
 use Rattle.session_grammar.specs.Plans.{Asker}
-use Rattle.record_text.specs.Reading.{givens_read}
+use Rattle.record_text.specs.Scaffold.Reading.{givens_read}
 use Rattle.record_text.proofs.finished.givens.Given as goal
 
 -- the statements that are left give what is read of the rest

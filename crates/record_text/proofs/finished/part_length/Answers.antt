@@ -1,5 +1,5 @@
 use Rattle.std.proofs.Common.{rules, cond, ap, ◌∙◌, ◌≡◌, ◌<◌, ◌-◌, suc, length, get_or}
-use Rattle.record_text.specs.Reading.{closes}
+use Rattle.record_text.specs.Scaffold.Reading.{closes}
 use Rattle.record_text.proofs.Loops.{part-more}
 use Rattle.record_text.proofs.finished.part_length.Goals as goal
 

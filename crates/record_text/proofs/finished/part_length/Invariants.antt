@@ -1,5 +1,5 @@
 use Rattle.std.proofs.Common.{◌≡◌, ◌+◌, drop}
-use Rattle.record_text.specs.Reading.{part_length}
+use Rattle.record_text.specs.Scaffold.Reading.{part_length}
 use Rattle.record_text.proofs.finished.part_length.Given as goal
 
 -- what is left begins with the rest of the part

@@ -1,5 +1,5 @@
 use Rattle.std.proofs.Common.{◌≡◌, take}
-use Rattle.record_text.specs.Giving.{rows_for}
+use Rattle.record_text.specs.Scaffold.Giving.{rows_for}
 use Rattle.record_text.proofs.finished.rows_of.Given as goal
 
 -- the rows of the partitions so far

@@ -1,5 +1,5 @@
 use Rattle.std.proofs.Common.{◌≡◌, ◌++◌, drop}
-use Rattle.record_text.specs.Reading.{rows_joined}
+use Rattle.record_text.specs.Scaffold.Reading.{rows_joined}
 use Rattle.record_text.proofs.tables.rows_joined.Given as goal
 
 -- the rows of the partitions that are left come behind

@@ -1,5 +1,5 @@
 use Rattle.std.proofs.Common.{◌≡◌, ◌++◌, drop}
-use Rattle.record_text.specs.Reading.{tables_read}
+use Rattle.record_text.specs.Scaffold.Reading.{tables_read}
 use Rattle.record_text.proofs.tables.tables_read.Given as goal
 
 -- the tables that are left have the rest

@@ -1,7 +1,7 @@
 use Rattle.std.proofs.Common.{◌≡◌, ap, ◌∙◌, subst}
 use Rattle.std.specs.Prelude.{IfOk}
 use Rattle.one_thread.specs.Text.{run_text}
-use Rattle.record_text.specs.Reading.{sessions_read, tables_read}
+use Rattle.record_text.specs.Scaffold.Reading.{sessions_read, tables_read}
 use Rattle.record_text.proofs.Sessions.{result-read}
 use Rattle.record_text.proofs.texts.text.Goals as goal
 

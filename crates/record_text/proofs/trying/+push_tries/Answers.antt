@@ -1,7 +1,7 @@
 use Rattle.std.proofs.Common.{rules, ◌≡◌, ◌+◌, ◌-◌, ◌++◌, ◌∷◌, [], List, take, drop, length, false, true, ap, sym, ◌∙◌, append_assoc, arith}
 use Rattle.one_thread.specs.declared.shown.Shown.{Shown}
 use Rattle.session_grammar.specs.Follows.{asker}
-use Rattle.record_text.specs.Reading.{behind, is_locked_out, own, shown_read, tries_read}
+use Rattle.record_text.specs.Scaffold.Reading.{behind, is_locked_out, own, shown_read, tries_read}
 use Rattle.record_text.proofs.Loops.{tries-last, tries-more}
 use Rattle.record_text.proofs.trying.+push_tries.Goals as goal
 

@@ -1,5 +1,5 @@
 use Rattle.std.proofs.Common.{rules, ◌≡◌, ◌<◌, ◌+◌, ◌-◌, drop, ap, sym, ◌∙◌}
-use Rattle.record_text.specs.Reading.{behind, behind_all}
+use Rattle.record_text.specs.Scaffold.Reading.{behind, behind_all}
 use Rattle.record_text.proofs.Loops.{behind-more}
 use Rattle.record_text.proofs.trying.behind_all.Goals as goal
 

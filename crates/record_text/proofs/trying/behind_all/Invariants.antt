@@ -1,5 +1,5 @@
 use Rattle.std.proofs.Common.{◌≡◌, ◌+◌, ◌-◌}
-use Rattle.record_text.specs.Reading.{behind_all}
+use Rattle.record_text.specs.Scaffold.Reading.{behind_all}
 use Rattle.record_text.proofs.trying.behind_all.Given as goal
 
 -- the attempts that are left stand at the front of the rest

@@ -1,5 +1,5 @@
 use Rattle.std.proofs.Common.{◌≡◌, ◌+◌, ◌++◌, drop}
-use Rattle.record_text.specs.Reading.{sessions_read}
+use Rattle.record_text.specs.Scaffold.Reading.{sessions_read}
 use Rattle.record_text.proofs.trying.sessions_read.Given as goal
 
 -- the sessions that are left show the rest

@@ -1,6 +1,6 @@
 use Rattle.std.proofs.Common.{sym, ap, ◌∙◌, ◌++◌, ◌-◌, ◌+◌, filter}
 use Rattle.std.specs.List.{range_with_len}
-use Rattle.session_laws.specs.Machine.{has_seen}
+use Rattle.session_laws.specs.Scaffold.Machine.{has_seen}
 use Rattle.session_laws.proofs.Ranges.{kept, passed}
 use Rattle.requester_fs.proofs.closings.in_order.Goals as goal
 use Rattle.requester_fs.proofs.closings.in_order.Goals.{then-has_seen+in_ok-push, else-has_seen}

@@ -1,6 +1,6 @@
 use Rattle.std.proofs.Common.{◌≡◌, filter, ◌++◌, ◌-◌}
 use Rattle.std.specs.List.{range_with_len}
-use Rattle.session_laws.specs.Machine.{has_seen}
+use Rattle.session_laws.specs.Scaffold.Machine.{has_seen}
 use Rattle.requester_fs.proofs.closings.in_order.Given as goal
 
 abbrev pub invariant-loop-part : goal.invariant-loop-part

@@ -2,7 +2,7 @@ use Rattle.std.proofs.Common.{◌≡◌, ◌++◌, ◌+◌, length, map}
 use Rattle.std.specs.List.{AllByRecursion}
 use Rattle.std.specs.Vec.Iter.{into_iter_items}
 use Rattle.partition_map.specs.Map.{cut}
-use Rattle.statement_plans.specs.Begins.{sent_in}
+use Rattle.statement_plans.specs.Scaffold.Begins.{sent_in}
 use Rattle.statement_plans.proofs.Pieces.{IsBelow}
 use Rattle.statement_plans.proofs.begins.begins.Given as goal
 

@@ -1,6 +1,6 @@
 use Rattle.std.proofs.Common.{◌≡◌, ◌+◌, ℕ, List, map, ap, sym, ◌∙◌, arith, Vec, Global}
 use Rattle.step_world.specs.Choosing.{acts_at}
-use Rattle.step_world.specs.Seats.{seen}
+use Rattle.step_world.specs.Scaffold.Seats.{seen}
 use Rattle.step_world.specs.declared.choosing.Agent.{Agent}
 use Rattle.step_world.specs.declared.choosing.Agent.TheVariants.{Session}
 use Rattle.step_world.proofs.Enabled.{acts_is, left_out, pushed}

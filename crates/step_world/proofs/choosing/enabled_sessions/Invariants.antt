@@ -2,7 +2,7 @@ use Rattle.std.proofs.Common.{◌≡◌, ◌++◌, map}
 use Rattle.std.specs.Prelude.{filter}
 use Rattle.std.specs.List.{range_with_len}
 use Rattle.step_world.specs.Choosing.{acts_at}
-use Rattle.step_world.specs.Seats.{seen}
+use Rattle.step_world.specs.Scaffold.Seats.{seen}
 use Rattle.step_world.specs.declared.choosing.Agent.TheVariants.{Session}
 use Rattle.step_world.proofs.choosing.enabled_sessions.Given as goal
 

@@ -2,7 +2,7 @@
 use Rattle.std.proofs.Common.{subst}
 use Rattle.step_world.specs.Runs.{CanAct}
 use Rattle.driver_laws.specs.Scheduling.{OfPartition}
-use Rattle.step_world.specs.Worlds.{scene}
+use Rattle.step_world.specs.Scaffold.Worlds.{scene}
 use Rattle.step_world.proofs.Chosen.{few_parts, from_same, from_seen}
 use Rattle.step_world.proofs.driver.act.Goals as goal
 

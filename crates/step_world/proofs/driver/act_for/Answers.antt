@@ -4,8 +4,8 @@ use Rattle.std.specs.Prelude.{◌⊎◌, option_map, slice_get, unwrap_or}
 use Rattle.requester_fs.specs.Asking.{Asking}
 use Rattle.driver_laws.specs.Scheduling.{OfSession}
 use Rattle.step_world.specs.Choosing.{acts_at, is_acting}
-use Rattle.step_world.specs.Seats.{seen, turn_of}
-use Rattle.step_world.specs.Worlds.{scene}
+use Rattle.step_world.specs.Scaffold.Seats.{seen, turn_of}
+use Rattle.step_world.specs.Scaffold.Worlds.{scene}
 use Rattle.step_world.specs.declared.seats.Seat.{Seat}
 use Rattle.step_world.specs.declared.seats.Turn.{Turn}
 use Rattle.step_world.specs.declared.seats.Turn.TheVariants.{Wait, Rest}

@@ -1,7 +1,7 @@
 use Rattle.std.proofs.Common.{map, ap, sym, ◌∙◌}
 use Rattle.std.proofs.lemmas.Simd.{map-map}
 use Rattle.partition_core.specs.Kept.{rows_in}
-use Rattle.step_world.specs.Seats.{seen}
+use Rattle.step_world.specs.Scaffold.Seats.{seen}
 use Rattle.step_world.proofs.ending.record.Goals as goal
 
 pub returns-clause-kept : goal.returns-clause-kept

@@ -1,5 +1,5 @@
 use Rattle.one_thread.specs.One.{load_rows}
-use Rattle.step_world.specs.Openings.{AreOpened}
+use Rattle.step_world.specs.Scaffold.Openings.{AreOpened}
 use Rattle.step_world.proofs.OpenTables.{openings_of}
 use Rattle.step_world.proofs.openings.open.Given as goal
 

@@ -3,7 +3,7 @@ use Rattle.sql_base.specs.Rows.{AreRecords}
 use Rattle.partition_core.specs.Kept.{opened_with}
 use Rattle.partition_state.specs.State.{opening}
 use Rattle.run_record.specs.Openings.{rows_in_part}
-use Rattle.step_world.specs.Openings.{AreOpened, is_opened}
+use Rattle.step_world.specs.Scaffold.Openings.{AreOpened, is_opened}
 use Rattle.step_world.specs.declared.processes.DiskProcess.{DiskProcess}
 use Rattle.step_world.proofs.OpenTables.{first_openings, part_more, part_records}
 use Rattle.step_world.proofs.openings.open_table.Goals as goal

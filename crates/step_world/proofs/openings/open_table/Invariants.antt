@@ -1,6 +1,6 @@
 use Rattle.std.proofs.Common.{◌++◌, List}
 use Rattle.partition_state.specs.State.{State}
-use Rattle.step_world.specs.Openings.{AreOpened}
+use Rattle.step_world.specs.Scaffold.Openings.{AreOpened}
 use Rattle.step_world.proofs.OpenTables.{first_openings}
 use Rattle.step_world.proofs.openings.open_table.Given as goal
 

@@ -6,7 +6,7 @@ use Rattle.ranges_laws.proofs.Ranges.{keys_are_keys}
 use Rattle.step_world.proofs.OpenTables.{row_elsewhere, row_here}
 use Rattle.step_world.proofs.openings.rows_at.Goals as goal
 use Rattle.step_world.proofs.openings.rows_at.Goals.{then-part_of-place+in_ok-copy_of+in_ok-push, else-part_of-place}
-use Rattle.sql_base.proofs.Lists.{all_at}
+use Rattle.sql_base.proofs.ListFacts.{all_at}
 
 pub part_of-requires-clause-long : goal.part_of-requires-clause-long
 part_of-requires-clause-long c =

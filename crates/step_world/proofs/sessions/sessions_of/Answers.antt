@@ -3,7 +3,7 @@ use Rattle.std.proofs.Common.{◌≡◌, ◌+◌, ◌∙◌, List, [], ◌∷◌
 use Rattle.std.proofs.lemmas.List.{length_push}
 use Rattle.requester_fs.specs.Asking.{Asking}
 use Rattle.step_world.specs.Runs.{IsNew}
-use Rattle.step_world.specs.Worlds.{EachAt}
+use Rattle.step_world.specs.Scaffold.Worlds.{EachAt}
 use Rattle.step_world.proofs.Seating.{each_more}
 use Rattle.step_world.proofs.sessions.sessions_of.Goals as goal
 

@@ -1,7 +1,7 @@
 -- So many sessions are made, each at its beginning.
 use Rattle.std.proofs.Common.{◌≡◌, suc, length}
 use Rattle.step_world.specs.Runs.{IsNew}
-use Rattle.step_world.specs.Worlds.{EachAt}
+use Rattle.step_world.specs.Scaffold.Worlds.{EachAt}
 use Rattle.step_world.proofs.sessions.sessions_of.Given as goal
 
 abbrev pub invariant-loop-at : goal.invariant-loop-at

@@ -14,7 +14,7 @@ use Rattle.predicate_runner.specs.Items.{item_in}
 use Rattle.update_expressions.specs.Entries.{set_in}
 use Rattle.update_expressions.proofs.Applied.{assigned-faults, assigned-goes, set_at}
 use Rattle.update_expressions.proofs.applying.apply.Goals as goal
-use Rattle.sql_base.proofs.Lists.{all_at}
+use Rattle.sql_base.proofs.ListFacts.{all_at}
 
 pub run-requires : goal.run-requires
 run-requires c =

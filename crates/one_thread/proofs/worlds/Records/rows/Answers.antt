@@ -1,6 +1,6 @@
 use Rattle.std.proofs.Common.{rules, ◌≡◌, ◌<◌, length, ◌++◌, [], ap, sym, ◌∙◌, take, get_or}
 use Rattle.std.specs.List.{cons_option, filter_map}
-use Rattle.one_thread.specs.Cells.{now_of}
+use Rattle.one_thread.specs.Scaffold.Cells.{now_of}
 use Rattle.one_thread.proofs.Passing.{filter_map_more}
 use Rattle.one_thread.proofs.worlds.Records.rows.Goals as goal
 

@@ -1,6 +1,6 @@
 use Rattle.std.proofs.Common.{◌≡◌, take}
 use Rattle.std.specs.List.{filter_map}
-use Rattle.one_thread.specs.Cells.{now_of}
+use Rattle.one_thread.specs.Scaffold.Cells.{now_of}
 use Rattle.one_thread.proofs.worlds.Records.rows.Given as goal
 
 -- the records so far

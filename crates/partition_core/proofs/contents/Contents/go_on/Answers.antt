@@ -5,13 +5,13 @@ use Rattle.subset_blocks.specs.Blocks.{find_block}
 use Rattle.subset_blocks.specs.declared.Numbered.{Numbered}
 use Rattle.subset_blocks.proofs.BlockLists.{found_has}
 use Rattle.quantum_core.specs.declared.works.SetWork.{SetWork}
-use Rattle.quantum_runner.specs.Plans.{IsWalk}
-use Rattle.quantum_runner.specs.Works.{IsWork}
+use Rattle.quantum_runner.specs.Scaffold.Plans.{IsWalk}
+use Rattle.quantum_runner.specs.Scaffold.Works.{IsWork}
 use Rattle.partition_state.specs.Step.{kept_key}
-use Rattle.partition_core.specs.Contents.{parts_of, state_of}
+use Rattle.partition_core.specs.Scaffold.Contents.{parts_of, state_of}
 use Rattle.std.proofs.lemmas.Result.{IfOk-weaker}
-use Rattle.partition_core.specs.Changes.{IsFitting}
-use Rattle.partition_core.specs.Firsts.{next_change, next_reply}
+use Rattle.partition_core.specs.Scaffold.Changes.{IsFitting}
+use Rattle.partition_core.specs.Scaffold.Firsts.{next_change, next_reply}
 use Rattle.partition_core.proofs.Told.{goes-told, if_both, next-fits, next-told, told-by}
 use Rattle.partition_core.proofs.contents.Contents.go_on.Goals as goal
 

@@ -5,8 +5,8 @@ use Rattle.sql_base.specs.declared.unpacking.UnpackFault.TheVariants.{WrongLengt
 use Rattle.sql_base.proofs.UnpackedLength.{unpacked-length}
 use Rattle.value_laws.proofs.Unpacked.{unpacked_are_rows}
 use Rattle.partition_state.specs.Step.{insert_row}
-use Rattle.partition_core.specs.Contents.{parts_of, state_of}
-use Rattle.partition_core.specs.Changes.{tells}
+use Rattle.partition_core.specs.Scaffold.Contents.{parts_of, state_of}
+use Rattle.partition_core.specs.Scaffold.Changes.{tells}
 use Rattle.partition_core.proofs.contents.Contents.insert.Goals as goal
 
 pub insert_row-requires-clause-row : goal.insert_row-requires-clause-row

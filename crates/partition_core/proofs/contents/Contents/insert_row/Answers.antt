@@ -13,8 +13,8 @@ use Rattle.key_sequenced.specs.declared.Cell.{Cell}
 use Rattle.dp_messages.specs.declared.replies.Reply.TheVariants.{Done}
 use Rattle.partition_state.specs.State.{with_live}
 use Rattle.partition_state.specs.Step.{is_key_here}
-use Rattle.partition_core.specs.Changes.{tells}
-use Rattle.partition_core.specs.Contents.{parts_of, state_of}
+use Rattle.partition_core.specs.Scaffold.Changes.{tells}
+use Rattle.partition_core.specs.Scaffold.Contents.{parts_of, state_of}
 use Rattle.partition_core.specs.declared.changes.Change.TheVariants.{Inserts}
 use Rattle.partition_core.proofs.Told.{beside-none, beside-some, by, insert-away, insert-here}
 use Rattle.partition_core.proofs.contents.Contents.insert_row.Goals as goal

@@ -3,7 +3,7 @@ use Rattle.std.specs.Prelude.{nat_eq}
 use Rattle.std.specs.List.{starts_with}
 use Rattle.sql_base.specs.Keys.{key_le}
 use Rattle.partition_state.specs.Step.{is_key_here}
-use Rattle.partition_core.specs.Contents.{parts_of, state_of}
+use Rattle.partition_core.specs.Scaffold.Contents.{parts_of, state_of}
 use Rattle.partition_core.proofs.Told.{shaped-both, shaped-high, shaped-low}
 use Rattle.partition_core.proofs.contents.Contents.is_shaped.Goals as goal
 

@@ -2,8 +2,8 @@ use Rattle.std.proofs.Common.{◌≡◌, ◌<◌, ◌-◌, length, Some, None, a
 use Rattle.std.specs.Prelude.{find, option_and_then, ◌==◌}
 use Rattle.std.proofs.lemmas.Grind.{common_steps}
 use Rattle.sql_base.specs.Locks.{same_txn}
-use Rattle.partition_core.specs.Contents.{state_of, parts_of}
-use Rattle.partition_core.specs.Changes.{tells}
+use Rattle.partition_core.specs.Scaffold.Contents.{state_of, parts_of}
+use Rattle.partition_core.specs.Scaffold.Changes.{tells}
 use Rattle.partition_state.specs.declared.lives.Live.{Live}
 use Rattle.partition_core.proofs.Judged.{answered-if, judged-ended, judged-other, not_ended}
 use Rattle.partition_core.proofs.contents.Contents.judge.Goals as goal

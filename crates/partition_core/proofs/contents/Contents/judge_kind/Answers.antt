@@ -1,8 +1,8 @@
 use Rattle.std.proofs.Common.{◌≡◌, IfOk, sym, subst}
 use Rattle.dp_messages.specs.declared.requests.Ask.{Ask}
 use Rattle.partition_state.specs.Step.{by_kind}
-use Rattle.partition_core.specs.Changes.{tells}
-use Rattle.partition_core.specs.Contents.{parts_of, state_of}
+use Rattle.partition_core.specs.Scaffold.Changes.{tells}
+use Rattle.partition_core.specs.Scaffold.Contents.{parts_of, state_of}
 use Rattle.partition_core.proofs.contents.Contents.judge_kind.Goals as goal
 
 pub returns-in-BeginRead-clause-told : goal.returns-in-BeginRead-clause-told

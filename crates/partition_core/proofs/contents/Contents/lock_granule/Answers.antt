@@ -6,8 +6,8 @@ use Rattle.sql_base.specs.Locks.{first_conflict}
 use Rattle.sql_base.specs.declared.lock_names.Lock.{Lock}
 use Rattle.dp_messages.specs.declared.replies.Reply.TheVariants.{Done}
 use Rattle.quantum_runner.specs.declared.planned.Planned.{Planned}
-use Rattle.partition_core.specs.Changes.{tells}
-use Rattle.partition_core.specs.Contents.{parts_of, state_of}
+use Rattle.partition_core.specs.Scaffold.Changes.{tells}
+use Rattle.partition_core.specs.Scaffold.Contents.{parts_of, state_of}
 use Rattle.partition_core.specs.declared.changes.Change.TheVariants.{Begins}
 use Rattle.partition_core.proofs.Told.{by, granule-told}
 use Rattle.partition_core.proofs.contents.Contents.lock_granule.Goals as goal

@@ -4,8 +4,8 @@ use Rattle.sql_base.specs.declared.tables.TableDef.{TableDef}
 use Rattle.predicate_codes.specs.Decoding.{filter_of}
 use Rattle.quantum_core.specs.declared.works.Doing.TheVariants.{Read}
 use Rattle.partition_state.specs.Step.{are_columns_here, is_key_here, set_work}
-use Rattle.partition_core.specs.Changes.{tells}
-use Rattle.partition_core.specs.Contents.{parts_of, state_of}
+use Rattle.partition_core.specs.Scaffold.Changes.{tells}
+use Rattle.partition_core.specs.Scaffold.Contents.{parts_of, state_of}
 use Rattle.partition_core.proofs.Told.{key-bad, key-good, key-unsuited}
 use Rattle.partition_core.proofs.contents.Contents.read_key.Goals as goal
 

@@ -1,8 +1,8 @@
 use Rattle.std.proofs.Common.{◌≤◌, length, ap, sym, ◌∙◌, subst, arith}
 use Rattle.std.proofs.lemmas.Result.{IfOk-weaker}
-use Rattle.partition_core.specs.Changes.{IsFitting, granule_wanted, tells}
-use Rattle.partition_core.specs.Contents.{parts_of, state_of}
-use Rattle.partition_core.specs.Firsts.{IsFirst, key_change, key_reply}
+use Rattle.partition_core.specs.Scaffold.Changes.{IsFitting, granule_wanted, tells}
+use Rattle.partition_core.specs.Scaffold.Contents.{parts_of, state_of}
+use Rattle.partition_core.specs.Scaffold.Firsts.{IsFirst, key_change, key_reply}
 use Rattle.partition_core.specs.declared.begins.First.TheVariants.{Barred, Walked}
 use Rattle.subset_blocks.specs.declared.Block.{Block}
 use Rattle.quantum_core.specs.declared.works.SetWork.{SetWork}

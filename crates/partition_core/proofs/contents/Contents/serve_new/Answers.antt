@@ -1,8 +1,8 @@
 use Rattle.std.proofs.Common.{ap, sym, ◌∙◌, subst}
 use Rattle.sql_base.specs.declared.lock_names.TxnName.{TxnName}
 use Rattle.dp_messages.specs.declared.requests.Request.{Request}
-use Rattle.partition_core.specs.Contents.{Parts, parts_of, kept_of, IsServing}
-use Rattle.partition_core.specs.Changes.{changed, noted_parts}
+use Rattle.partition_core.specs.Scaffold.Contents.{Parts, parts_of, kept_of, IsServing}
+use Rattle.partition_core.specs.Scaffold.Changes.{changed, noted_parts}
 use Rattle.partition_core.proofs.Serving.{IsServing-after, kept-after, served-below}
 use Rattle.partition_core.proofs.contents.Contents.serve_new.Goals as goal
 

@@ -1,5 +1,5 @@
 use Rattle.std.proofs.Common.{subst}
-use Rattle.partition_core.specs.Contents.{parts_of}
+use Rattle.partition_core.specs.Scaffold.Contents.{parts_of}
 use Rattle.partition_core.specs.Kept.{AreMarked}
 use Rattle.partition_core.proofs.Starving.{marks-above}
 use Rattle.partition_core.proofs.partitions.Partition.history.Goals as goal

@@ -1,7 +1,7 @@
 use Rattle.std.proofs.Common.{◌≡◌, ◌<◌, ◌≤◌, List, length, true, false, Some, ap, sym, ◌∙◌, subst, arith}
 use Rattle.std.specs.Prelude.{option_map, slice_get}
 use Rattle.partition_state.specs.declared.entries.Entry.{Entry}
-use Rattle.partition_core.specs.Contents.{entry_at, kept_of, parts_of}
+use Rattle.partition_core.specs.Scaffold.Contents.{entry_at, kept_of, parts_of}
 use Rattle.partition_core.specs.Kept.{Kept, opener_in}
 use Rattle.partition_core.proofs.Starving.{never-served, place-within, seen}
 use Rattle.partition_core.proofs.partitions.Partition.pickup.Goals as goal

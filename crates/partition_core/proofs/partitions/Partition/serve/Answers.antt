@@ -1,7 +1,7 @@
 use Rattle.std.proofs.Common.{◌≡◌, ◌<◌, List, ℕ, ap, sym, ◌∙◌, subst}
 use Rattle.sync_messages.specs.Openers.{seat_of}
 use Rattle.sync_messages.specs.declared.Seat.{Seat}
-use Rattle.partition_core.specs.Contents.{IsServing, Parts, kept_of, parts_of}
+use Rattle.partition_core.specs.Scaffold.Contents.{IsServing, Parts, kept_of, parts_of}
 use Rattle.partition_core.specs.Kept.{Kept, Serves, starved}
 use Rattle.partition_core.specs.declared.partitions.Served.TheVariants as answer
 use Rattle.partition_core.proofs.Starving.{IsServing-starved, kept-starved, serves-again, serves-new, serves-old, serves-repeat, serves-starved}

@@ -1,7 +1,7 @@
 use Rattle.std.proofs.Common.{◌<◌, List, ℕ, ap, sym, ◌∙◌, subst, arith}
 use Rattle.sync_messages.specs.Openers.{seat_of}
 use Rattle.sync_messages.specs.declared.Seat.{Seat}
-use Rattle.partition_core.specs.Contents.{IsServing, kept_of, parts_of}
+use Rattle.partition_core.specs.Scaffold.Contents.{IsServing, kept_of, parts_of}
 use Rattle.partition_core.specs.Kept.{Kept, opener_in, starved}
 use Rattle.partition_core.proofs.Starving.{IsServing-starved, kept-starved, seen}
 use Rattle.partition_core.proofs.partitions.Partition.starve.Goals as goal

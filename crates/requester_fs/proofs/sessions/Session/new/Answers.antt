@@ -1,8 +1,8 @@
 use Rattle.std.proofs.Common.{length, ap, arith, subst, ◌∙◌}
 use Rattle.sql_base.specs.Scripts.{parts_of}
-use Rattle.requester_fs.specs.Stages.{Stands}
-use Rattle.requester_fs.specs.Working.{IsWorking}
-use Rattle.session_laws.specs.Machine.{works_at}
+use Rattle.requester_fs.specs.Scaffold.Stages.{Stands}
+use Rattle.requester_fs.specs.Scaffold.Working.{IsWorking}
+use Rattle.session_laws.specs.Scaffold.Machine.{works_at}
 use Rattle.requester_fs.proofs.Asked.{is_asking}
 use Rattle.requester_fs.proofs.Keeping.{exact, first_working, one}
 use Rattle.requester_fs.proofs.Ordinals.{works_few}

@@ -2,11 +2,11 @@ use Rattle.std.proofs.Common.{◌≡◌, ◌<◌, ◌++◌, [], ◌∷◌, Some,
 use Rattle.std.proofs.lemmas.Option.{same_Some}
 use Rattle.session_grammar.specs.Follows.{works_of}
 use Rattle.session_grammar.specs.Sessions.{MayCome, entries_kept}
-use Rattle.session_laws.specs.Machine.{after}
+use Rattle.session_laws.specs.Scaffold.Machine.{after}
 use Rattle.requester_fs.specs.Asking.{Advances, Asking, HasTaken, next_at}
 use Rattle.requester_fs.specs.Lasting.{answers_left}
-use Rattle.requester_fs.specs.Stages.{IsStage, Stands, statements_of, stood, way_in, way_of}
-use Rattle.requester_fs.specs.Working.{IsWorking}
+use Rattle.requester_fs.specs.Scaffold.Stages.{IsStage, Stands, statements_of, stood, way_in, way_of}
+use Rattle.requester_fs.specs.Scaffold.Working.{IsWorking}
 use Rattle.requester_fs.specs.declared.stages.Stand.{Stand}
 use Rattle.requester_fs.proofs.Asked.{has_answered, is_asking}
 use Rattle.requester_fs.proofs.Keeping.{exact, lasts, one, taken}

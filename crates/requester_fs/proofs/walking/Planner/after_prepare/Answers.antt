@@ -3,8 +3,8 @@ use Rattle.std.specs.Prelude.{max}
 use Rattle.dp_messages.specs.declared.replies.Reply.TheVariants as reply
 use Rattle.session_grammar.specs.Follows.{asker}
 use Rattle.session_grammar.specs.declared.logs.Answer.TheVariants.{Reply}
-use Rattle.session_laws.specs.Machine.{after_prepare, prepares_at, undone}
-use Rattle.requester_fs.specs.Stages.{statements_of, trying_of}
+use Rattle.session_laws.specs.Scaffold.Machine.{after_prepare, prepares_at, undone}
+use Rattle.requester_fs.specs.Scaffold.Stages.{statements_of, trying_of}
 use Rattle.requester_fs.proofs.Walks.{stands_at, stands_by}
 use Rattle.requester_fs.proofs.walking.Planner.after_prepare.Goals as goal
 

@@ -1,4 +1,4 @@
-use Rattle.requester_fs.specs.Stages.{statements_of}
+use Rattle.requester_fs.specs.Scaffold.Stages.{statements_of}
 use Rattle.requester_fs.proofs.walking.Planner.after_stamp.Goals as goal
 
 pub closed-requires-clause-stage : goal.closed-requires-clause-stage

@@ -2,8 +2,8 @@ use Rattle.std.proofs.Common.{◌+◌, drop, [], length, refl, ap, sym, ◌∙�
 use Rattle.std.proofs.lemmas.Option.{slice_get_read}
 use Rattle.sql_base.specs.declared.scripts.Work.{Work}
 use Rattle.session_grammar.specs.Follows.{asker}
-use Rattle.session_laws.specs.Machine.{At, trying}
-use Rattle.requester_fs.specs.Stages.{IsStage, MayBeStage, doing_of, placed, work_of}
+use Rattle.session_laws.specs.Scaffold.Machine.{At, trying}
+use Rattle.requester_fs.specs.Scaffold.Stages.{IsStage, MayBeStage, doing_of, placed, work_of}
 use Rattle.requester_fs.proofs.Walks.{first_here, work_here}
 use Rattle.requester_fs.proofs.walking.Planner.first.Goals as goal
 

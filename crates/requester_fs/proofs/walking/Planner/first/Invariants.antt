@@ -1,6 +1,6 @@
 use Rattle.std.proofs.Common.{◌≡◌, ◌≤◌, ℕ, ◌+◌, drop}
 use Rattle.session_grammar.specs.Follows.{asker}
-use Rattle.session_laws.specs.Machine.{works_at}
+use Rattle.session_laws.specs.Scaffold.Machine.{works_at}
 use Rattle.requester_fs.proofs.walking.Planner.first.Given as goal
 
 -- the transactions passed so far do nothing, and each has its ordinal

@@ -1,7 +1,7 @@
 use Rattle.std.proofs.Common.{◌≡◌, drop, false, ap, sym, ◌∙◌, subst}
 use Rattle.session_grammar.specs.Follows.{asker}
-use Rattle.session_laws.specs.Machine.{behind, closing, next, statements_at}
-use Rattle.requester_fs.specs.Stages.{IsStage, MayBeStage, out_of, placed, statements_of, trying_of}
+use Rattle.session_laws.specs.Scaffold.Machine.{behind, closing, next, statements_at}
+use Rattle.requester_fs.specs.Scaffold.Stages.{IsStage, MayBeStage, out_of, placed, statements_of, trying_of}
 use Rattle.requester_fs.proofs.Walks.{commit_here, stands_at, stands_by, statements_there}
 use Rattle.requester_fs.proofs.walking.Planner.next_statement.Goals as goal
 

@@ -3,7 +3,7 @@ use Rattle.std.specs.Prelude.{slice_get, IfSome}
 use Rattle.std.proofs.lemmas.Option.{slice_get_read}
 use Rattle.dp_messages.specs.Spelling.{IsAsk}
 use Rattle.session_grammar.specs.declared.plans.Sent.{Sent}
-use Rattle.session_laws.specs.Machine.{are_subsets, sents_of}
+use Rattle.session_laws.specs.Scaffold.Machine.{are_subsets, sents_of}
 use Rattle.requester_fs.proofs.Walks.{planned_is, planned_spelled}
 use Rattle.requester_fs.proofs.walking.Planner.sent_at.Goals as goal
 

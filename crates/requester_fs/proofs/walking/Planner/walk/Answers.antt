@@ -1,10 +1,10 @@
 use Rattle.std.proofs.Common.{ap, sym, ◌∙◌, arith}
 use Rattle.session_grammar.specs.Follows.{asker}
-use Rattle.session_laws.specs.Machine.{At}
-use Rattle.requester_fs.specs.Stages.{doing_of}
+use Rattle.session_laws.specs.Scaffold.Machine.{At}
+use Rattle.requester_fs.specs.Scaffold.Stages.{doing_of}
 use Rattle.requester_fs.proofs.Walks.{walk_here, walk_past}
 use Rattle.requester_fs.proofs.walking.Planner.walk.Goals as goal
-use Rattle.sql_base.proofs.Lists.{some-at}
+use Rattle.sql_base.proofs.ListFacts.{some-at}
 
 pub returns-in-Some-clause-placed : goal.returns-in-Some-clause-placed
 returns-in-Some-clause-placed c number t seen next =

@@ -1,6 +1,6 @@
 use Rattle.std.proofs.Common.{◌≡◌, ◌≤◌, ℕ, List, drop}
 use Rattle.session_grammar.specs.Follows.{asker}
-use Rattle.session_laws.specs.Machine.{Place, Trying, statements_at}
+use Rattle.session_laws.specs.Scaffold.Machine.{Place, Trying, statements_at}
 use Rattle.requester_fs.proofs.walking.Planner.walk.Given as goal
 
 -- the statements passed so far ask nothing

@@ -3,7 +3,7 @@ use Rattle.std.specs.Prelude.{Result, OnOk}
 use Rattle.outside.specs.declared.wire.Passage.{Passage}
 use Rattle.outside.specs.declared.wire.Passage.TheVariants.{Repeat}
 use Rattle.dp_messages.specs.Spelling.{request_bytes}
-use Rattle.step_world.specs.Mails.{copies_of}
+use Rattle.step_world.specs.Scaffold.Mails.{copies_of}
 use Rattle.step_world.proofs.processes.DiskProcess.post_copies.Goals as goal
 
 twice : {T E X : Type 0} (result : Result T E) (a b d : List X) (m : X) → b ≡ a ++ m ∷ [] → OnOk result (d ≡ b ++ m ∷ []) → OnOk result (d ≡ a ++ m ∷ m ∷ [])

@@ -6,7 +6,7 @@ use Rattle.dp_messages.specs.declared.requests.Request.{Request}
 use Rattle.partition_core.specs.Kept.{Kept, marked, opener_in, served}
 use Rattle.partition_core.proofs.KeptReplies.{kept_reply}
 use Rattle.partition_state.specs.State.{Opener, opener_of}
-use Rattle.step_world.specs.Mails.{CanReply, Handles}
+use Rattle.step_world.specs.Scaffold.Mails.{CanReply, Handles}
 use Rattle.step_world.proofs.Marks.{none_at}
 use Rattle.step_world.proofs.processes.DiskProcess.serve_and_reply.Goals as goal
 

@@ -10,8 +10,8 @@ use Rattle.run_record.specs.declared.records.Act.{Act}
 use Rattle.run_record.specs.declared.records.Act.TheVariants.{Draw}
 use Rattle.driver_laws.specs.Moves.{next_drawn}
 use Rattle.driver_laws.specs.Scheduling.{OfSession}
-use Rattle.step_world.specs.Seats.{IsAnswered, seen, turn_of}
-use Rattle.step_world.specs.Worlds.{Driving, GoesOn, Scene, record_of, scene}
+use Rattle.step_world.specs.Scaffold.Seats.{IsAnswered, seen, turn_of}
+use Rattle.step_world.specs.Scaffold.Worlds.{Driving, GoesOn, Scene, record_of, scene}
 use Rattle.step_world.specs.declared.seats.Seat.{Seat}
 use Rattle.step_world.proofs.Acting.{next_scene}
 use Rattle.step_world.proofs.Drawing.{counted_at, drew_on, low_floor}

@@ -4,7 +4,7 @@ use Rattle.std.specs.Prelude.{filter}
 use Rattle.std.specs.List.{range_with_len}
 use Rattle.driver_laws.specs.Scheduling.{Actor, OfPartition, OfSession, chosen_of}
 use Rattle.step_world.specs.Choosing.{actor_seen, acts_at, mail_at}
-use Rattle.step_world.specs.Seats.{seen}
+use Rattle.step_world.specs.Scaffold.Seats.{seen}
 use Rattle.step_world.specs.declared.choosing.Agent.{Agent}
 use Rattle.step_world.specs.declared.choosing.Agent.TheVariants.{Partition, Session}
 use Rattle.step_world.specs.declared.processes.DiskProcess.{DiskProcess}

@@ -7,9 +7,9 @@ use Rattle.requester_fs.specs.Asking.{Asking}
 use Rattle.session_grammar.specs.Rows.{is_end}
 use Rattle.run_record.specs.declared.records.Act.{Act}
 use Rattle.run_record.specs.declared.records.Act.TheVariants.{Send}
-use Rattle.step_world.specs.Mails.{copies_of}
-use Rattle.step_world.specs.Seats.{IsOut, IsSent, seen, turn_of}
-use Rattle.step_world.specs.Worlds.{Driving, GoesOnWith, Scene, scene}
+use Rattle.step_world.specs.Scaffold.Mails.{copies_of}
+use Rattle.step_world.specs.Scaffold.Seats.{IsOut, IsSent, seen, turn_of}
+use Rattle.step_world.specs.Scaffold.Worlds.{Driving, GoesOnWith, Scene, scene}
 use Rattle.step_world.specs.declared.processes.DiskProcess.{DiskProcess}
 use Rattle.step_world.specs.declared.seats.Outgoing.{Outgoing}
 use Rattle.step_world.specs.declared.seats.Seat.{Seat}

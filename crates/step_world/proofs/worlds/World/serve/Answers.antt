@@ -7,10 +7,10 @@ use Rattle.sql_base.specs.Scripts.{Lies}
 use Rattle.requester_fs.specs.Asking.{Asking}
 use Rattle.run_record.specs.declared.records.Act.{Act}
 use Rattle.run_record.specs.declared.records.Act.TheVariants.{Serve}
-use Rattle.step_world.specs.Mails.{TakesOldest}
-use Rattle.step_world.specs.Seats.{seen, served_at}
+use Rattle.step_world.specs.Scaffold.Mails.{TakesOldest}
+use Rattle.step_world.specs.Scaffold.Seats.{seen, served_at}
 use Rattle.step_world.specs.Tellings.{Telling}
-use Rattle.step_world.specs.Worlds.{Driving, Scene, Setting, scene}
+use Rattle.step_world.specs.Scaffold.Worlds.{Driving, Scene, Setting, scene}
 use Rattle.step_world.specs.declared.processes.DiskProcess.{DiskProcess}
 use Rattle.step_world.specs.declared.processes.Sender.{Sender}
 use Rattle.step_world.specs.declared.seats.Seat.{Seat}

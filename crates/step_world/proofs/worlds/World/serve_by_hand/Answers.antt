@@ -11,9 +11,9 @@ use Rattle.session_grammar.specs.declared.logs.Answer.TheVariants.{Reply}
 use Rattle.run_record.specs.declared.records.Act.{Act}
 use Rattle.run_record.specs.declared.records.Act.TheVariants.{ByHand}
 use Rattle.driver_laws.specs.Scheduling.{OfSession}
-use Rattle.step_world.specs.Mails.{CanReply, Handles}
-use Rattle.step_world.specs.Seats.{IsAnswered, IsOut, seen, turn_of}
-use Rattle.step_world.specs.Worlds.{Driving, GoesOn, Scene, scene}
+use Rattle.step_world.specs.Scaffold.Mails.{CanReply, Handles}
+use Rattle.step_world.specs.Scaffold.Seats.{IsAnswered, IsOut, seen, turn_of}
+use Rattle.step_world.specs.Scaffold.Worlds.{Driving, GoesOn, Scene, scene}
 use Rattle.step_world.specs.declared.processes.DiskProcess.{DiskProcess}
 use Rattle.step_world.specs.declared.seats.Outgoing.{Outgoing}
 use Rattle.step_world.specs.declared.seats.Seat.{Seat}

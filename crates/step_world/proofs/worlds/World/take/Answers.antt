@@ -12,8 +12,8 @@ use Rattle.session_grammar.specs.declared.logs.Answer.TheVariants.{Reply}
 use Rattle.run_record.specs.declared.records.Act.{Act}
 use Rattle.run_record.specs.declared.records.Act.TheVariants.{Take}
 use Rattle.driver_laws.specs.Scheduling.{OfSession}
-use Rattle.step_world.specs.Seats.{IsAnswered, IsAwaited, seen, turn_of}
-use Rattle.step_world.specs.Worlds.{Driving, GoesOn, Scene, scene}
+use Rattle.step_world.specs.Scaffold.Seats.{IsAnswered, IsAwaited, seen, turn_of}
+use Rattle.step_world.specs.Scaffold.Worlds.{Driving, GoesOn, Scene, scene}
 use Rattle.step_world.specs.declared.processes.DiskProcess.{DiskProcess}
 use Rattle.step_world.specs.declared.seats.Seat.{Seat}
 use Rattle.step_world.specs.declared.seats.Turn.TheVariants as turn

@@ -1,0 +1,4 @@
+-- What proofs keep from step to step: nobody has to believe it.
+pub mod Failing
+pub mod Served
+pub mod States

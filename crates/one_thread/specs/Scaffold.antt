@@ -1,0 +1,11 @@
+-- What proofs keep from step to step: nobody has to believe it.
+pub mod Cells
+pub mod Inserting
+pub mod Loading
+pub mod Runs
+pub mod Scans
+pub mod Sessions
+pub mod Statements
+pub mod Values
+pub mod Windows
+pub mod Worlds

@@ -1,0 +1,4 @@
+-- What proofs keep from step to step: nobody has to believe it.
+pub mod Contents
+pub mod Changes
+pub mod Firsts

@@ -1,0 +1,3 @@
+-- What proofs keep from step to step: nobody has to believe it.
+pub mod Works
+pub mod Plans

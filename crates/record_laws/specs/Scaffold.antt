@@ -1,0 +1,4 @@
+-- What proofs keep from step to step: nobody has to believe it.
+pub mod Lanes
+pub mod Standing
+pub mod Serving

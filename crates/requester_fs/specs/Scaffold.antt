@@ -1,0 +1,3 @@
+-- What proofs keep from step to step: nobody has to believe it.
+pub mod Stages
+pub mod Working

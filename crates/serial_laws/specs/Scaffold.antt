@@ -1,0 +1,6 @@
+-- What proofs keep from step to step: nobody has to believe it.
+pub mod Chains
+pub mod Found
+pub mod Sound
+pub mod Stages
+pub mod Exact

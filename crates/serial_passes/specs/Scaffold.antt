@@ -1,0 +1,7 @@
+-- What proofs keep from step to step: nobody has to believe it.
+pub mod Did
+pub mod Inserts
+pub mod Passes
+pub mod Pieces
+pub mod Walks
+pub mod Worlds

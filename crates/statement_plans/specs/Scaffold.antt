@@ -1,0 +1,2 @@
+-- What proofs keep from step to step: nobody has to believe it.
+pub mod Begins

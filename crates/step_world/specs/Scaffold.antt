@@ -1,0 +1,5 @@
+-- What proofs keep from step to step: nobody has to believe it.
+pub mod Worlds
+pub mod Seats
+pub mod Mails
+pub mod Openings
