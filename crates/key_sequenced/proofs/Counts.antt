@@ -1,6 +1,6 @@
 -- How many cells stand before a place.
 use Rattle.std.proofs.Common.{◌≡◌, ℕ, zero, suc, ◌+◌, ◌<◌, ◌≤◌, List, [], ◌∷◌, length, not, Bool, true, false, cond, Option, Some, None, slice_index_or, refl, ap, sym, ◌∙◌, arith}
-use Rattle.std.specs.Prelude.{find, slice_get}
+use Rattle.std.specs.Prelude.{find, slice_get, if◌then◌else◌}
 use Rattle.std.specs.List.{prefix_len}
 use Rattle.std.specs.List.Sorted.{IsPartitionPoint, IsPartitionedBy}
 use Rattle.std.specs.Cmp.Lexicographic.{slice_cmp}

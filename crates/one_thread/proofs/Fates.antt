@@ -1,6 +1,6 @@
 -- SELECT, UPDATE and DELETE are one case.
 use Rattle.std.proofs.Common.{◌≡◌, List, [], ◌∷◌, length, map, Bool, true, false, not, cond, Option, Some, None, refl, ap, sym, ◌∙◌}
-use Rattle.std.specs.Prelude.{count_by, filter, option_map, Ok}
+use Rattle.std.specs.Prelude.{count_by, filter, option_map, Ok, if◌then◌else◌}
 use Rattle.std.specs.List.{cons_option, filter_map}
 use Rattle.std.proofs.lemmas.List.Sums.{length-filter}
 use Rattle.sql_base.specs.OnRows.{updated}

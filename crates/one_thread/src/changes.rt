@@ -3,13 +3,13 @@
 ghost use Rattle.std.specs.Prelude.{◌≡◌, ◌<◌, ◌^◌, Option, is_some, length, option_map, slice_get, slice_set, unwrap_or, IfOk, OnOk};
 ghost use Rattle.std.specs.List.{list_any};
 ghost use Rattle.sql_base.specs.OnRows.{fault_of, first_failing, check_fault, stored, updated};
-ghost use Rattle.sql_base.specs.Rows.{kinds, padded, width};
+ghost use Rattle.sql_base.specs.Rows.{kinds, width};
 ghost use Rattle.sql_base.specs.Val.{val};
 ghost use Rattle.one_thread.specs.Scaffold.Values.{item_in};
 
 use crate::values::{Item, value};
 use sql_base::{
-    Assign, ColumnKind, EvalFault, Expr, Fault, List, NoMemory, Row, TableDef, Text, Value,
+    Assign, ColumnKind, EvalFault, Expr, Fault, List, NoMemory, Row, TableDef, Value, padded,
 };
 use std::alloc::Global;
 
@@ -89,17 +89,6 @@ fn width_at(table: &TableDef, column: u8) -> usize
         },
         None => 0,
     }
-}
-
-fn padded(alloc: Global, text: &[u8], width: usize) -> Result<Text, NoMemory>
-    ensures { IfOk result (λ wide. wide ≡ padded width text.now) }
-{
-    let blanks = width.saturating_sub(text.len());
-    let mut bytes = text.to_vec(alloc)?;
-    for _ in 0..blanks {
-        bytes.push(b' ')?;
-    }
-    Ok(Text::from_vec(bytes))
 }
 
 /// The fault of the first CHECK that faults or isn't true. CHECKs count from 1.

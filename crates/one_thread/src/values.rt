@@ -1,11 +1,10 @@
 //! The value of an expression on a row, evaluated along its tree.
 
-ghost use Rattle.std.specs.Prelude.{◌≡◌, Ok, slice_get, slice_index_or};
-ghost use Rattle.sql_base.specs.Val.{arith, column_item, compared, computed, filter_val, holds, text_cmp, val};
-ghost use Rattle.one_thread.specs.Scaffold.Values.{item_in, number_in, or_overflow, outcome_in, truth_of};
+ghost use Rattle.std.specs.Prelude.{◌≡◌, Ok, slice_get};
+ghost use Rattle.sql_base.specs.Val.{column_item, compared, computed, filter_val, val};
+ghost use Rattle.one_thread.specs.Scaffold.Values.{item_in, outcome_in, truth_of};
 
-use sql_base::{ArithOp, CompareOp, EvalFault, Expr, Value};
-use std::cmp::Ordering;
+use sql_base::{ArithOp, CompareOp, EvalFault, Expr, Value, compare_texts, compute, holds};
 
 /// What an expression gives: a number, a text of the expression or the row, a truth value, or nothing where its
 /// operands are of wrong kinds.
@@ -15,66 +14,6 @@ pub enum Item<'a> {
     Text(&'a [u8]),
     Truth(bool),
     Nothing,
-}
-
-fn or_overflow(number: Option<i64>) -> Result<i64, EvalFault>
-    ensures { result ≡ or_overflow number }
-{
-    match number {
-        Some(number) => Ok(number),
-        None => Err(EvalFault::Overflow),
-    }
-}
-
-fn compute(op: ArithOp, x: i64, y: i64) -> Result<i64, EvalFault>
-    ensures { number_in result ≡ arith op x y }
-{
-    match op {
-        ArithOp::Add => or_overflow(x.checked_add(y)),
-        ArithOp::Sub => or_overflow(x.checked_sub(y)),
-        ArithOp::Mul => or_overflow(x.checked_mul(y)),
-        ArithOp::Div => {
-            if y == 0 {
-                Err(EvalFault::ZeroDivide)
-            } else {
-                or_overflow(x.checked_div(y))
-            }
-        }
-    }
-}
-
-fn holds(op: CompareOp, order: Ordering) -> bool
-    ensures { result ≡ holds op order }
-{
-    match op {
-        CompareOp::Eq => order.is_eq(),
-        CompareOp::Ne => order.is_ne(),
-        CompareOp::Lt => order.is_lt(),
-        CompareOp::Le => order.is_le(),
-        CompareOp::Gt => order.is_gt(),
-        CompareOp::Ge => order.is_ge(),
-    }
-}
-
-fn byte_or_blank(text: &[u8], at: usize) -> u8
-    ensures { result ≡ slice_index_or text.now at 32 }
-{
-    if at < text.len() { text[at] } else { b' ' }
-}
-
-// The shorter text counts as padded with blanks.
-fn compare_texts(a: &[u8], b: &[u8]) -> Ordering
-    ensures { result ≡ text_cmp a.now b.now }
-{
-    let common = a.len().max(b.len());
-    for i in 0..common {
-        let x = byte_or_blank(a, i);
-        let y = byte_or_blank(b, i);
-        if x != y {
-            return x.cmp(&y);
-        }
-    }
-    Ordering::Equal
 }
 
 fn calculated<'a>(op: ArithOp, a: Item<'a>, b: Item<'a>) -> Result<Item<'a>, EvalFault>

@@ -5,6 +5,5 @@ pub mod Stacks
 pub mod Walks
 pub mod Judged
 pub mod Runs
-pub mod Numbers
 pub mod Texts
 mod WorkedRows

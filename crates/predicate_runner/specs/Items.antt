@@ -1,8 +1,7 @@
 -- The items of a run, and what an instruction comes to.
-use Rattle.std.specs.Prelude.{◌≡◌, ◌≤◌, ℕ, ℤ, List, length, map, reverse, Option, Some, None, Result, Ok, Err}
+use Rattle.std.specs.Prelude.{◌≡◌, ◌≤◌, ℕ, List, length, map, reverse, Option, Some, None, Result, Ok, Err}
 use Rattle.sql_base.specs.Val.{Item, Outcome, IsNumber, IsText, IsTruth, IsNothing}
 use Rattle.sql_base.specs.declared.faults.EvalFault.{EvalFault}
-use Rattle.sql_base.specs.declared.faults.EvalFault.TheVariants.{Overflow}
 use Rattle.predicate_runner.specs.Scaffold.Running.{StepResult}
 use Rattle.predicate_runner.specs.declared.items.Item.{Item as Held}
 use Rattle.predicate_runner.specs.declared.items.Item.TheVariants as held
@@ -15,14 +14,6 @@ item_in (held.Truth b) = IsTruth b
 -- the stack, its top first
 abbrev pub items_in : List Held → List Item
 items_in items = map item_in (reverse items)
-
-abbrev pub number_in : Result ℤ EvalFault → Outcome
-number_in (Ok n) = Ok (IsNumber n)
-number_in (Err fault) = Err fault
-
-abbrev pub or_overflow : Option ℤ → Result ℤ EvalFault
-or_overflow (Some n) = Ok n
-or_overflow None = Err Overflow
 
 -- the instruction leaves this stack, and so many bytes to pass over; or a fault; or it can't be carried out
 abbrev pub Came : StepResult → List ℕ → List Held → Option (Result ℕ EvalFault) → Type 0

@@ -1,11 +1,11 @@
 //! A verified code, run on a row.
 
-ghost use Rattle.std.specs.Prelude.{◌≡◌, ◌≤◌, ◌∷◌, [], length, slice_index_or, Ok, IfSome, None};
-ghost use Rattle.sql_base.specs.Val.{arith, holds, text_cmp, val};
+ghost use Rattle.std.specs.Prelude.{◌≡◌, ◌≤◌, ◌∷◌, [], length, Ok, IfSome, None};
+ghost use Rattle.sql_base.specs.Val.{val};
 ghost use Rattle.sql_base.specs.Kinds.{Kind, IsExpr};
 ghost use Rattle.sql_base.specs.Rows.{IsRow};
 ghost use Rattle.sql_base.specs.declared.tables.TableDef.{TableDef};
-ghost use Rattle.predicate_runner.specs.Items.{Came, item_in, items_in, number_in, or_overflow, outcome_in, outcome_of};
+ghost use Rattle.predicate_runner.specs.Items.{Came, item_in, items_in, outcome_in, outcome_of};
 ghost use Rattle.predicate_runner.specs.Scaffold.Running.{kept, ran, running};
 
 use crate::items::Item;
@@ -13,68 +13,7 @@ use crate::steps::counted_in;
 use crate::verifying::Verified;
 use arrayvec::ArrayVec;
 use predicate_codes::{Opcode, opcode_of};
-use sql_base::{ArithOp, CompareOp, EvalFault, Row, Value};
-use std::cmp::Ordering;
-
-fn or_overflow(number: Option<i64>) -> Result<i64, EvalFault>
-    ensures { result ≡ or_overflow number }
-{
-    match number {
-        Some(number) => Ok(number),
-        None => Err(EvalFault::Overflow),
-    }
-}
-
-fn compute(op: ArithOp, x: i64, y: i64) -> Result<i64, EvalFault>
-    ensures { number_in result ≡ arith op x y }
-{
-    match op {
-        ArithOp::Add => or_overflow(x.checked_add(y)),
-        ArithOp::Sub => or_overflow(x.checked_sub(y)),
-        ArithOp::Mul => or_overflow(x.checked_mul(y)),
-        ArithOp::Div => {
-            if y == 0 {
-                Err(EvalFault::ZeroDivide)
-            } else {
-                or_overflow(x.checked_div(y))
-            }
-        }
-    }
-}
-
-fn holds(op: CompareOp, order: Ordering) -> bool
-    ensures { result ≡ holds op order }
-{
-    match op {
-        CompareOp::Eq => order.is_eq(),
-        CompareOp::Ne => order.is_ne(),
-        CompareOp::Lt => order.is_lt(),
-        CompareOp::Le => order.is_le(),
-        CompareOp::Gt => order.is_gt(),
-        CompareOp::Ge => order.is_ge(),
-    }
-}
-
-fn byte_or_blank(text: &[u8], at: usize) -> u8
-    ensures { result ≡ slice_index_or text.now at 32 }
-{
-    if at < text.len() { text[at] } else { b' ' }
-}
-
-// The shorter text counts as padded with blanks.
-fn compare_texts(a: &[u8], b: &[u8]) -> Ordering
-    ensures { result ≡ text_cmp a.now b.now }
-{
-    let common = a.len().max(b.len());
-    for i in 0..common {
-        let x = byte_or_blank(a, i);
-        let y = byte_or_blank(b, i);
-        if x != y {
-            return x.cmp(&y);
-        }
-    }
-    Ordering::Equal
-}
+use sql_base::{ArithOp, CompareOp, EvalFault, Row, Value, compare_texts, compute, holds};
 
 fn keep<'a>(
     stack: &mut ArrayVec<Item<'a>, 32>,

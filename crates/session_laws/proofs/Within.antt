@@ -1,6 +1,6 @@
 -- A plan asks rising partitions, and all of them are there.
 use Rattle.std.proofs.Common.{◌≡◌, ◌≤◌, ◌<◌, ℕ, zero, suc, ◌+◌, List, [], ◌∷◌, length, map, cond, Option, Some, None, Bool, true, false, refl, arith}
-use Rattle.std.specs.Prelude.{slice_get, unwrap_or, option_map, filter_map}
+use Rattle.std.specs.Prelude.{slice_get, unwrap_or, option_map, filter_map, if◌then◌else◌}
 use Rattle.std.specs.List.{range_with_len, cons_option}
 use Rattle.std.proofs.lemmas.List.{length-map}
 use Rattle.std.proofs.lemmas.List.Sums.{count_by-le-length}

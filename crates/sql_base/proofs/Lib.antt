@@ -12,3 +12,4 @@ pub mod Truths
 pub mod ListFacts
 pub mod Orderings
 pub mod RowFacts
+pub mod Numbers

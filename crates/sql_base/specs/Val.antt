@@ -30,6 +30,15 @@ Outcome = Result Item EvalFault
 abbrev pub number : ℤ → Outcome
 number z = if in_i64 z then Ok (IsNumber z) else Err Overflow
 
+-- a number of the code, or its fault
+abbrev pub number_in : Result ℤ EvalFault → Outcome
+number_in (Ok n) = Ok (IsNumber n)
+number_in (Err fault) = Err fault
+
+abbrev pub or_overflow : Option ℤ → Result ℤ EvalFault
+or_overflow (Some n) = Ok n
+or_overflow None = Err Overflow
+
 -- division goes toward zero
 abbrev pub quotient : ℤ → ℤ → Outcome
 quotient x (pos zero) = Err ZeroDivide

@@ -5,7 +5,7 @@ ghost use Rattle.std.specs.Int.{w64, cast_unsigned, to_be_bytes};
 ghost use Rattle.sql_base.specs.KeyFaults.{first_key_fault, have_kinds, key_fault, key_fault_at};
 ghost use Rattle.sql_base.specs.Rows.{IsRow, key_of, key_value, kinds, padded, width};
 
-use crate::bytes::{Key, is_printable};
+use crate::bytes::{Key, Text, is_printable};
 use crate::faults::NoMemory;
 use crate::tables::{ColumnKind, TableDef};
 use crate::values::{Row, Value};
@@ -129,6 +129,15 @@ pub fn width_of(kind: ColumnKind) -> usize
         ColumnKind::Int => 8,
         ColumnKind::Char(width) => width as usize,
     }
+}
+
+/// The text with blanks up to the width.
+pub fn padded(alloc: Global, text: &[u8], width: usize) -> Result<Text, NoMemory>
+    ensures { IfOk result (λ wide. wide ≡ padded width text.now) }
+{
+    let mut bytes = Vec::new(alloc);
+    append_padded(&mut bytes, text, width)?;
+    Ok(Text::from_vec(bytes))
 }
 
 /// Adds a text, and blanks up to the width.

@@ -2,6 +2,7 @@
 #![tactic(auto)]
 
 mod bytes;
+mod computing;
 mod expressions;
 mod faults;
 mod granules;
@@ -18,12 +19,13 @@ mod unpacking;
 mod values;
 
 pub use bytes::{Code, Key, Name, Packed, Prefix, Text, is_printable};
+pub use computing::{compare_texts, compute, holds};
 pub use expressions::{ArithOp, CompareOp, Expr};
 pub use faults::{Cause, EvalFault, Fault, NoMemory};
 pub use granules::{common_prefix, overlaps};
 pub use key_ranges::{KeyRange, Start};
 pub use keys::{
-    KeyFault, append_key_value, append_padded, encode_key, key_number, row_key, width_of,
+    KeyFault, append_key_value, append_padded, encode_key, key_number, padded, row_key, width_of,
 };
 pub use lists::List;
 pub use lock_names::{Access, Lock, Mode, TxnName};

@@ -1,6 +1,6 @@
 -- A draft without fault: what has been judged holds.
 use Rattle.std.proofs.Common.{◌≡◌, ℕ, Bool, true, false, not, ◌&&◌, Option, Some, None, refl, sym, subst, arith}
-use Rattle.std.specs.Prelude.{nat_le}
+use Rattle.std.specs.Prelude.{nat_le, if◌then◌else◌}
 use Rattle.std.proofs.lemmas.Bool.Decides.{nat_tests}
 use Rattle.sql_base.specs.Scripts.{Lies, AreLimits}
 use Rattle.sql_base.specs.declared.scripts.Limits.{Limits}

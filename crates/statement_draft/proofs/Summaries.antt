@@ -1,7 +1,7 @@
 -- Operators over operands that describe their trees give such operands.
 use Rattle.std.proofs.Common.{◌≡◌, ℕ, ℤ, pos, ◌+◌, ◌^◌, ◌≤◌, zero, suc, min, max, List, [], ◌∷◌, ◌++◌, length, Bool, true, false, Option, Some, None, refl, sym, ap, subst, ◌∙◌, arith, lt-ltb}
 use Rattle.std.proofs.lemmas.List.{length-append}
-use Rattle.std.specs.Prelude.{slice_get, neg_ℤ, nat_lt, ◌&&◌, option_map, option_and_then, nat_le}
+use Rattle.std.specs.Prelude.{slice_get, neg_ℤ, nat_lt, ◌&&◌, option_map, option_and_then, nat_le, if◌then◌else◌}
 use Rattle.std.specs.Int.{w16, to_be_bytes}
 use Rattle.sql_base.specs.Codes.{code_of, code_step, counted}
 use Rattle.sql_base.specs.Kinds.{kind_of, kind_step, depth_of, depth_step}

@@ -1,4 +1,5 @@
 -- What follows the word that begins a part is safe where the part is.
+use Rattle.std.specs.Prelude.{if◌then◌else◌}
 use Rattle.std.proofs.Common.{◌≡◌, List, [], ◌∷◌, Bool, true, false, ◌||◌, Option, Some, None, refl, subst}
 use Rattle.statement_words.specs.declared.tokens.Word.{Word}
 use Rattle.statement_grammar.specs.WordsAt.{is_key, is_sign, is_name, is_literal}

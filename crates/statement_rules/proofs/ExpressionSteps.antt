@@ -1,6 +1,6 @@
 -- What the words of an expression leave: one operand more, or another one on top.
 use Rattle.std.proofs.Common.{◌≡◌, ◌≤◌, ◌<◌, ◌+◌, ◌-◌, ℕ, zero, suc, pos, ◌^◌, min, max, not, ◌&&◌, ◌⊎◌, inl, inr, List, [], ◌∷◌, length, Bool, true, false, Option, Some, None, refl, sym, ap, subst, ◌∙◌, arith}
-use Rattle.std.specs.Prelude.{nat_lt, nat_le, is_some, slice_get, option_map, option_and_then}
+use Rattle.std.specs.Prelude.{nat_lt, nat_le, is_some, slice_get, option_map, option_and_then, if◌then◌else◌}
 use Rattle.std.proofs.lemmas.Bool.Decides.{nat_tests}
 use Rattle.sql_base.specs.Rows.{is_printable}
 use Rattle.sql_base.specs.declared.expressions.Expr.{Expr}

@@ -1,6 +1,6 @@
 -- Lists of places and names, and one more in them.
 use Rattle.std.proofs.Common.{◌≡◌, ℕ, ◌+◌, ◌<◌, ◌≤◌, ◌&&◌, ◌||◌, not, List, [], ◌∷◌, ◌++◌, length, map, Bool, true, false, Option, Some, None, refl, ap, ◌∙◌, arith}
-use Rattle.std.specs.Prelude.{nat_le, nat_eq, sum_by, slice_get, option_map}
+use Rattle.std.specs.Prelude.{nat_le, nat_eq, sum_by, slice_get, option_map, if◌then◌else◌}
 use Rattle.std.specs.List.{list_any, AllByRecursion, cons_option}
 use Rattle.std.specs.Str.{bytes_eq}
 use Rattle.std.proofs.lemmas.Bool.Decides.{nat_tests}

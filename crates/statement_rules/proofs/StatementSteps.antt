@@ -1,6 +1,6 @@
 -- What SELECT lists, filters and assignments leave.
 use Rattle.std.proofs.Common.{◌≡◌, ◌≤◌, ◌<◌, ◌+◌, ℕ, zero, suc, min, ◌||◌, List, [], ◌∷◌, ◌++◌, length, map, Bool, true, false, Option, Some, None, refl, sym, ap, subst, ◌∙◌, arith}
-use Rattle.std.specs.Prelude.{nat_lt, nat_le, nat_eq, is_some, slice_get, flat_map, option_map, option_and_then}
+use Rattle.std.specs.Prelude.{nat_lt, nat_le, nat_eq, is_some, slice_get, flat_map, option_map, option_and_then, if◌then◌else◌}
 use Rattle.std.specs.Int.{w16, to_be_bytes}
 use Rattle.std.specs.List.{AllByRecursion, list_any}
 use Rattle.std.proofs.lemmas.Bool.Decides.{nat_tests}

@@ -1,7 +1,7 @@
 //! A SET list applied to a row.
 
 ghost use Rattle.std.specs.Prelude.{◌≡◌, ◌<◌, length, slice_set, Err, IfOk, Ok};
-ghost use Rattle.sql_base.specs.Rows.{IsRow, padded};
+ghost use Rattle.sql_base.specs.Rows.{IsRow};
 ghost use Rattle.sql_base.specs.Tables.{AreSets};
 ghost use Rattle.sql_base.specs.declared.faults.EvalFault.{EvalFault};
 ghost use Rattle.sql_base.specs.declared.tables.TableDef.{TableDef};
@@ -10,7 +10,7 @@ ghost use Rattle.update_expressions.specs.Storing.{Updates, value_over};
 
 use crate::verifying::{VerifiedSet, VerifiedSets};
 use predicate_runner::{Item, run};
-use sql_base::{EvalFault, List, NoMemory, Row, Text, Value, append_padded};
+use sql_base::{EvalFault, List, NoMemory, Row, Value, padded};
 use std::alloc::Global;
 
 /// Why a SET list makes no row of another.
@@ -69,12 +69,4 @@ fn value_over(alloc: Global, old: &Value, item: Item) -> Result<Value, NoMemory>
         },
         Item::Truth(_truth) => Ok(old.clone()?),
     }
-}
-
-fn padded(alloc: Global, text: &[u8], width: usize) -> Result<Text, NoMemory>
-    ensures { IfOk result (λ wide. wide ≡ padded width text.now) }
-{
-    let mut bytes = Vec::new(alloc);
-    append_padded(&mut bytes, text, width)?;
-    Ok(Text::from_vec(bytes))
 }

@@ -1,8 +1,7 @@
 -- What the evaluator gives, as values of expressions.
-use Rattle.std.specs.Prelude.{ℕ, ℤ, Option, Some, None, Bool, false, Result, Ok, Err}
+use Rattle.std.specs.Prelude.{ℕ, Option, Bool, false, Result, Ok, Err}
 use Rattle.sql_base.specs.Val.{Item, Outcome, IsNumber, IsText, IsTruth, IsNothing}
 use Rattle.sql_base.specs.declared.faults.EvalFault.{EvalFault}
-use Rattle.sql_base.specs.declared.faults.EvalFault.TheVariants.{Overflow}
 use Rattle.one_thread.specs.declared.values.Item.{Item as Held}
 use Rattle.one_thread.specs.declared.values.Item.TheVariants as held
 
@@ -15,14 +14,6 @@ item_in held.Nothing = IsNothing
 abbrev pub outcome_in : Result Held EvalFault → Outcome
 outcome_in (Ok item) = Ok (item_in item)
 outcome_in (Err fault) = Err fault
-
-abbrev pub number_in : Result ℤ EvalFault → Outcome
-number_in (Ok n) = Ok (IsNumber n)
-number_in (Err fault) = Err fault
-
-abbrev pub or_overflow : Option ℤ → Result ℤ EvalFault
-or_overflow (Some n) = Ok n
-or_overflow None = Err Overflow
 
 -- whether a value is true, or its fault
 abbrev pub truth_of : Outcome → Result Bool EvalFault

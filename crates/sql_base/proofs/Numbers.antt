@@ -5,8 +5,7 @@ use Rattle.std.specs.Int.{w64}
 use Rattle.std.specs.Int.RustNames.{FitsSigned}
 use Rattle.std.proofs.lemmas.Bool.{lt-ltb, ltb-true}
 use Rattle.sql_base.specs.Rows.{in_i64}
-use Rattle.sql_base.specs.Val.{number}
-use Rattle.predicate_runner.specs.Items.{number_in, or_overflow}
+use Rattle.sql_base.specs.Val.{number, number_in, or_overflow}
 
 fits_in : (z : ℤ) → FitsSigned w64 z → in_i64 z ≡ true
 fits_in (pos n) f = lt-ltb n (2 ^ 63) f.sfits

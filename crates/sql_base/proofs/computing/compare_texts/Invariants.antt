@@ -3,7 +3,7 @@ use Rattle.std.specs.Ordering.{nat_cmp}
 use Rattle.std.specs.Cmp.Lexicographic.{slice_cmp}
 use Rattle.sql_base.specs.Rows.{padded}
 use Rattle.sql_base.specs.Val.{text_cmp}
-use Rattle.one_thread.proofs.values.compare_texts.Given as goal
+use Rattle.sql_base.proofs.computing.compare_texts.Given as goal
 
 -- what is left of the padded texts compares as the whole
 abbrev pub invariant-loop-i : goal.invariant-loop-i

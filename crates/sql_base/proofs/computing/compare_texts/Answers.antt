@@ -2,7 +2,7 @@ use Rattle.std.proofs.Common.{◌≡◌, ◌<◌, ◌+◌, arith, max, length, d
 use Rattle.std.specs.Ordering.{nat_cmp, ordering_then}
 use Rattle.std.specs.Cmp.Lexicographic.{slice_cmp}
 use Rattle.sql_base.specs.Rows.{padded}
-use Rattle.one_thread.proofs.values.compare_texts.Goals as goal
+use Rattle.sql_base.proofs.computing.compare_texts.Goals as goal
 use Rattle.sql_base.proofs.RowFacts.{texts-step}
 use Rattle.sql_base.proofs.Orderings.{then-differ, then-same}
 
