@@ -76,7 +76,7 @@ inserted table row key A mid B x key-is x-key x-row long empty same kept are ris
     let free : duplicate table row (nows A ++ nows B) ≡ None = rw (← key-is, none_equal table key now_of (nows A) (nows B) lower upper) refl in
     record {
       allowed = or_abort (first_failing table.checks row) (key_of table row) (duplicate table row (nows (A ++ (mid ++ B)))) passes (ap (duplicate table row) old ∙ free);
-      rows = new ∙ sym (placed_between table key now_of row (nows A) (nows B) (sym key-is) lower upper) ∙ ap (λ rows. Rattle.one_thread.specs.One.placed table row rows) (sym old);
+      rows = new ∙ sym (placed_between table key now_of row (nows A) (nows B) (sym key-is) lower upper) ∙ ap (λ rows. Rattle.one_thread.specs.One.row_placed table row rows) (sym old);
       before = filter_map-append before_of A (x ∷ B) ∙ ap (λ rows. befores A ++ rows) (filter_map-append before_of (x ∷ []) B ∙ ap (λ rows. rows ++ befores B) (sym same) ∙ sym (filter_map-append before_of mid B)) ∙ sym (filter_map-append before_of A (mid ++ B));
       now = record { rise = rise; keyed = all_both IsNow A (x ∷ B) in_A (subst (λ o. IfSome o (IsKeyed table x.key)) (sym x-row) (sym key-is ∙ sym x-key, long), in_B) };
       keeps = λ h. record {

@@ -1,10 +1,11 @@
 -- How many candidates a quantum handles, by what the code sees where it stops.
-use Rattle.std.proofs.Common.{◌≡◌, ℕ, ◌+◌, ◌-◌, ◌<◌, ◌≤◌, List, [], ◌∷◌, ◌++◌, length, take, drop, Bool, true, false, cond, ◌&&◌, ◌⊎◌, inl, inr, min, zero, suc, ap, sym, ◌∙◌, arith, append_assoc, length-append}
+use Rattle.std.proofs.Common.{◌≡◌, ℕ, ◌+◌, ◌-◌, ◌<◌, ◌≤◌, List, [], ◌∷◌, ◌++◌, length, take, drop, Bool, true, false, cond, ◌&&◌, ◌⊎◌, inl, inr, min, zero, suc, refl, ap, sym, ◌∙◌, arith, append_assoc, length-append}
 use Rattle.std.proofs.Math.Nat.{eq-or-lt_of_le}
 use Rattle.std.proofs.Math.Seq.{take-append_seam, take-append-add, drop-append_seam}
 use Rattle.std.proofs.lemmas.List.Folds.{list_all-append}
 use Rattle.std.proofs.lemmas.List.Elements.{filter_map-append}
 use Rattle.std.proofs.lemmas.List.Sums.{sum_by-append}
+use Rattle.std.proofs.lemmas.Bool.{false≢true}
 use Rattle.std.proofs.lemmas.Bool.Decides.{nat_tests}
 use Rattle.std.proofs.lemmas.Grind.{common_steps}
 use Rattle.quantum_core.specs.Quantum.{greatest, may_handle, visits, reply_to, answer}
@@ -21,8 +22,17 @@ greatest_is p zero m le passes above = omega arith
 greatest_is p (suc n) m le passes above =
     greatest_step p n m (eq-or-lt_of_le le) passes above (λ le'. greatest_is p n m le' passes (λ k lt lek. above k lt (omega arith)))
 
-and_false : (a b : Bool) → a ≡ false → (a && b) ≡ false
-and_false a b e = ap (λ x. x && b) e
+-- one more number to try
+at_least_step : (p : ℕ → Bool) (n k : ℕ) (b : Bool) → p (suc n) ≡ b → p k ≡ true → (k ≡ suc n) ⊎ (k < suc n) → (k ≤ n → k ≤ greatest p n) → k ≤ cond b (suc n) (greatest p n)
+at_least_step p n k true e passes (inl same) rest = omega arith
+at_least_step p n k true e passes (inr lt) rest = omega arith
+at_least_step p n k false e passes (inl same) rest = absurd (false≢true (sym e ∙ ap p (sym same) ∙ passes))
+at_least_step p n k false e passes (inr lt) rest = rest (omega arith)
+
+-- the greatest number that passes is no less than any that passes
+pub greatest-at_least : (p : ℕ → Bool) (n k : ℕ) → k ≤ n → p k ≡ true → k ≤ greatest p n
+greatest-at_least p zero k le passes = omega arith
+greatest-at_least p (suc n) k le passes = at_least_step p n k (p (suc n)) refl passes (eq-or-lt_of_le le) (λ le'. greatest-at_least p n k le' passes)
 
 -- what doesn't fit doesn't with more behind it
 pub may_handle-append_false : (limits : Limits) (xs ys : List Judged) → may_handle limits xs ≡ false → may_handle limits (xs ++ ys) ≡ false

@@ -109,7 +109,11 @@ Matches table (Delete t predicate access) i held after r =
     (reply_changed r ≡ count_by (λ k. meets predicate k.row) (inside i held)) × (after ≡ filter (λ k. not (is_inside i k.key && meets predicate k.row)) held)
 Matches table other i held after r = ⊥
 
--- the records just before and just after the entry with this sync in the history of a partition
+-- the place of the session's entry with this sync in the history of a partition
+abbrev pub place_in : RunRecord → ℕ → ℕ → ℕ → Option ℕ
+place_in kept part session sync = position (λ e. (e.opener == session) && (e.sync == sync)) (history_of kept part)
+
+-- the records just before and just after an entry
 pub record Around : Type 0 where
   pub held : List Keyed
   pub after : List Keyed
@@ -119,7 +123,7 @@ around script kept session part sync =
     option_and_then
     (λ p. option_map
     (λ i. record { held = records (before p (history_of kept part) i).cells; after = records (before p (history_of kept part) (i + 1)).cells })
-    (position (λ e. (e.opener == session) && (e.sync == sync)) (history_of kept part)))
+    (place_in kept part session sync))
     (slice_get (openings script) part)
 
 abbrev pub MatchesAround : TableDef → Statement → Interval → PartitionReply → Option Around → Type 0
