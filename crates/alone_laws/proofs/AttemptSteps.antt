@@ -134,39 +134,39 @@ module _ (script : Script) (is : IsScript script) (a : Attempt) (attempt : IsAtt
       comes_by (record { ending = RollsBack; given = givens_of r a.work.statements a.parts; world = w }) ran (undone_world works undo) (undone_drawn works undo, outcome, refl, undone_calm works undo)
 
   commits : a.work.commit ≡ true → InTurn (IsPart r a.ordinal) a.work.statements a.parts None → IsCommit r a → Comes
-  commits commit turns (floors, stamp, prepares, closing, ending_is, are_prepares, are_ends, outcome) =
+  commits commit turns c =
       let works = work None turns in
       let ran = ran_to None turns ∙ (λ i. record {
         ending = ends (commit i);
         given = givens_of r a.work.statements a.parts;
         world = if commit i then world_of script.tables (behind 0 qs (joined a.parts)) else w;
       }) in
-      comes_by (record { ending = Commits; given = givens_of r a.work.statements a.parts; world = world_of script.tables (behind 0 qs (joined a.parts)) }) ran (kept_world works) (d, drew works, floor_low script a qs open_qs top calm replies works floors stamp prepares closing ending_is are_prepares are_ends, outcome, refl, kept_calm works)
+      comes_by (record { ending = Commits; given = givens_of r a.work.statements a.parts; world = world_of script.tables (behind 0 qs (joined a.parts)) }) ran (kept_world works) (d, drew works, floor_low script a qs open_qs top calm replies works c.floors c.stamp c.prepares c.ends c.ending_is c.prepared c.ended, c.outcome_is, refl, kept_calm works)
     where
       d : Drawn
-      d = record { name = t; floor = greatest_of floors; stamp = stamp }
+      d = record { name = t; floor = greatest_of c.floors; stamp = c.stamp }
 
-      drew : AllByRecursion (IsWork a.ordinal) (joined a.parts) → drawn_in (entries_of a) ≡ record { name = t; floor = greatest_of floors; stamp = stamp } ∷ []
+      drew : AllByRecursion (IsWork a.ordinal) (joined a.parts) → drawn_in (entries_of a) ≡ record { name = t; floor = greatest_of c.floors; stamp = c.stamp } ∷ []
       drew works =
           filter_map-append drawn_by (joined a.parts) a.ending
           ∙ ap (λ l. l ++ drawn_in a.ending) (drawn_none (joined a.parts) (work_asked a.ordinal (joined a.parts) works))
-          ∙ ap drawn_in ending_is
-          ∙ filter_map-append drawn_by prepares (Drew t (greatest_of floors) (Stamp stamp) ∷ closing)
-          ∙ ap (λ l. l ++ drawn_in (Drew t (greatest_of floors) (Stamp stamp) ∷ closing)) (drawn_none prepares (prepares-asked a.ordinal (touched r a) prepares floors are_prepares))
-          ∙ ap (λ l. record { name = t; floor = greatest_of floors; stamp = stamp } ∷ l) (drawn_none closing (ends-asked a.ordinal (EndCommit stamp) (touched r a) closing are_ends))
+          ∙ ap drawn_in c.ending_is
+          ∙ filter_map-append drawn_by c.prepares (Drew t (greatest_of c.floors) (Stamp c.stamp) ∷ c.ends)
+          ∙ ap (λ l. l ++ drawn_in (Drew t (greatest_of c.floors) (Stamp c.stamp) ∷ c.ends)) (drawn_none c.prepares (prepares-asked a.ordinal (touched r a) c.prepares c.floors c.prepared))
+          ∙ ap (λ l. record { name = t; floor = greatest_of c.floors; stamp = c.stamp } ∷ l) (drawn_none c.ends (ends-asked a.ordinal (EndCommit c.stamp) (touched r a) c.ends c.ended))
 
       kept_at : AllByRecursion (IsWork a.ordinal) (joined a.parts) → (k : ℕ) (q : State) → slice_get qs k ≡ Some q
-          → Calm stamp (served_by q (filter (is_for k) (entries_of a))) × (records (served_by q (filter (is_for k) (entries_of a))).cells ≡ records (served_by q (filter (is_for k) (joined a.parts))).cells)
+          → Calm c.stamp (served_by q (filter (is_for k) (entries_of a))) × (records (served_by q (filter (is_for k) (entries_of a))).cells ≡ records (served_by q (filter (is_for k) (joined a.parts))).cells)
       kept_at works k q there =
-          committed_at script a qs open_qs top calm replies works floors stamp prepares closing ending_is are_prepares are_ends
-          (rises (record { name = t; floor = greatest_of floors; stamp = stamp }) (drew works)) k q there
+          committed_at script a qs open_qs top calm replies works c.floors c.stamp c.prepares c.ends c.ending_is c.prepared c.ended
+          (rises (record { name = t; floor = greatest_of c.floors; stamp = c.stamp }) (drew works)) k q there
 
-      kept_calm : AllByRecursion (IsWork a.ordinal) (joined a.parts) → AllCalm stamp after
+      kept_calm : AllByRecursion (IsWork a.ordinal) (joined a.parts) → AllCalm c.stamp after
       kept_calm works k q there =
-          let c = came_from 0 qs (entries_of a) k q there in
+          let came = came_from 0 qs (entries_of a) k q there in
           let zero_k : 0 + k ≡ k = omega arith in
-          subst (Calm stamp) (sym (c.same ∙ ap (λ n. served_by c.before (filter (is_for n) (entries_of a))) zero_k))
-          (kept_at works k c.before c.there).0
+          subst (Calm c.stamp) (sym (came.same ∙ ap (λ n. served_by came.before (filter (is_for n) (entries_of a))) zero_k))
+          (kept_at works k came.before came.there).0
 
       kept_world : AllByRecursion (IsWork a.ordinal) (joined a.parts) → world_of script.tables (behind 0 qs (joined a.parts)) ≡ world_of script.tables after
       kept_world works =
@@ -180,10 +180,10 @@ module _ (script : Script) (is : IsScript script) (a : Attempt) (attempt : IsAtt
   attempt_comes = by_end attempt.parts_and_ending.0 a.work.commit refl attempt.parts_and_ending.1 attempt.parts_and_ending.2
     where
       loses : LosesPrepare r a → ⊥
-      loses (front, part, back, floors, prepares, lost, closing, touched_is, ending_is, are_prepares, lost_is, are_ends, outcome) =
+      loses l =
           let ending_heard = all_right IsHeard (joined a.parts) a.ending heard in
-          let lost_part = all_right IsHeard prepares (lost ∷ closing) (subst (AllByRecursion IsHeard) ending_is ending_heard) in
-          lost_heard part (record { ordinal = a.ordinal; ask = Prepare }) lost lost_is lost_part.0
+          let lost_part = all_right IsHeard l.prepares (l.lost ∷ l.ends) (subst (AllByRecursion IsHeard) l.ending_is ending_heard) in
+          lost_heard l.part (record { ordinal = a.ordinal; ask = Prepare }) l.lost l.lost_is lost_part.0
 
       by_end : (end : Option Abort) (commit : Bool) → a.work.commit ≡ commit → InTurn (IsPart r a.ordinal) a.work.statements a.parts end → IsEnding r a end a.work.commit → Comes
       by_end (Some abort) commit e turns (undo, outcome) = fails abort turns undo outcome

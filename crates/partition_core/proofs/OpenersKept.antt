@@ -165,7 +165,7 @@ counts-commit_above : (p : State) (t : TxnName) (stamp : â„•) (floor : Option â„
 counts-commit_above p t stamp None = record { same = refl }
 counts-commit_above p t stamp (Some floor) =
     let a : Answered = record { reply = Done; state = record (transaction_ended p t (cells_settled t p.cells)) { high = max p.high stamp } } in
-    let ends : Counts p a = record { same = length-set p.openers (t.session - 1) (record (opener_of p t.session) { transaction_ended = t.ordinal }) } in
+    let ends : Counts p a = record { same = length-set p.openers (t.session - 1) (record (opener_of p t.session) { ended = t.ordinal }) } in
     counts-either p (nat_le stamp floor) (refused p (StampLow floor)) a (counts-refused p (StampLow floor)) ends
 
 -- EndCommit

@@ -197,11 +197,11 @@ prepare_from p t None = record { reply = Floor p.high; state = record p { lives 
 abbrev pub prepare : State → TxnName → Answered
 prepare p t = if is_live p t then prepare_from p t (floor_of p t) else refused p NotKnown
 
--- End: locks and blocks of the transaction go, and its ordinal is the last transaction_ended
+-- End: locks and blocks of the transaction go, and its ordinal is the last ended
 abbrev pub transaction_ended : State → TxnName → List Cell → State
 transaction_ended p t cells =
     let q = record p { cells = cells; locks = released t p.locks; blocks = closed_of t p.blocks; lives = filter (λ l. not (same_txn l.name t)) p.lives } in
-    with_opener q t.session (record (opener_of p t.session) { transaction_ended = t.ordinal })
+    with_opener q t.session (record (opener_of p t.session) { ended = t.ordinal })
 
 abbrev pub commit_above : State → TxnName → ℕ → Option ℕ → Answered
 commit_above p t stamp None = refused p NotPrepared
@@ -240,7 +240,7 @@ is_closing ask = false
 abbrev pub other_live : State → TxnName → Option Live
 other_live p t = find (λ l. (l.name.session == t.session) && not (l.name.ordinal == t.ordinal)) p.lives
 
--- the checks before the kinds: an attempt that has transaction_ended, another that is live, one that has prepared
+-- the checks before the kinds: an attempt that has ended, another that is live, one that has prepared
 abbrev pub unless_prepared : State → TxnName → Ask → Option ℕ → Answered
 unless_prepared p t ask None = by_kind p t ask
 unless_prepared p t ask (Some floor) = if is_closing ask then by_kind p t ask else refused p (AfterPrepare floor)
@@ -251,8 +251,8 @@ unless_other p t ask None = unless_prepared p t ask (floor_of p t)
 
 abbrev pub answered : State → TxnName → Ask → Answered
 answered p t ask =
-    let transaction_ended = (opener_of p t.session).ended in
-    if nat_le t.ordinal transaction_ended then refused p (AfterEnd transaction_ended) else unless_other p t ask (other_live p t)
+    let ended = (opener_of p t.session).ended in
+    if nat_le t.ordinal ended then refused p (AfterEnd ended) else unless_other p t ask (other_live p t)
 
 -- the partition after a request, and the reply where its sync was new
 pub record Stepped : Type 0 where

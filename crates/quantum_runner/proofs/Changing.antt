@@ -1,4 +1,4 @@
--- The is_change made one after the other leave what the quantum leaves.
+-- The changes made one after the other leave what the quantum leaves.
 use Rattle.std.proofs.Common.{◌≡◌, ℕ, zero, suc, List, [], ◌∷◌, Bool, true, false, cond, Option, Some, None, map, take, filter, refl, ap, sym, ◌∙◌}
 use Rattle.std.specs.Option.{option_map}
 use Rattle.std.specs.List.{AllByRecursion, cons_option}
@@ -64,7 +64,7 @@ eq-alike a b c h =
     let same = equal-is (slice_cmp nat_cmp a b) h in
     ap is_eq (nat_list_cmp_total.antisymm c a) ∙ ap (λ o. is_eq (ordering_reverse o)) (nat_list_cmp_total.congr a b c same) ∙ sym (ap is_eq (nat_list_cmp_total.antisymm c b))
 
--- nothing behind a candidate is_change its record
+-- nothing behind a candidate changes its record
 no-change : (key : List ℕ) (j : Judged) (js : List Judged) → key_eq j.key key ≡ true → AllByRecursion (λ k. key_lt j.key k.key ≡ true) js → change_at key js ≡ None
 no-change key j [] e h = refl
 no-change key j (k ∷ js) e h =
@@ -132,13 +132,13 @@ granted-handled t (j ∷ js) locks = at j.verdict (granted-handled t js)
     at (Selected (Becomes row)) rest = rest (granted (x_on t j.key) locks)
     at (Selected Goes) rest = rest (granted (x_on t j.key) locks)
 
--- the is_change of a quantum, in its store
+-- the changes of a quantum, in its store
 pub cells-handled : (table : TableDef) (locks : List Lock) (block : Block SetWork) (cells : List Cell) (n : ℕ) → AreCells cells
     → let js = take n (judged table locks block cells) in rewritten_by (plans_of block.holder js) cells ≡ cells_after block.holder js cells
 cells-handled table locks block cells n h =
     rewritten-handled block.holder (take n (judged table locks block cells)) cells (climb-handled table locks block cells n h) h
 
--- the is_change of a walk leave what the quantum leaves
+-- the changes of a walk leave what the quantum leaves
 pub quantum-left : (limits : Limits) (table : TableDef) (cells : List Cell) (locks : List Lock) (block : Block SetWork) (walk : Walk) → AreCells cells → IsWalk limits table cells locks block walk
     → left_with walk.reply (rewritten_by walk.plans cells) (granted_by walk.plans locks) ≡ quantum limits table cells locks block
 quantum-left limits table cells locks block walk rise w =

@@ -162,16 +162,16 @@ locked_part =
 
 -- the first session commits
 first_commits : Commits (asker script 1) committed
-first_commits = (
-  0 ∷ 0 ∷ [],
-  1,
-  asked 0 4 ask.Prepare (reply.Floor 0) ∷ asked 1 5 ask.Prepare (reply.Floor 0) ∷ [],
-  asked 0 6 (ask.EndCommit 1) reply.Done ∷ asked 1 7 (ask.EndCommit 1) reply.Done ∷ [],
-  refl,
-  (fitting 0 4 ask.Prepare (reply.Floor 0) (lit≤ tt, refl), (fitting 1 5 ask.Prepare (reply.Floor 0) (lit≤ tt, refl), tt)),
-  (fitting 0 6 (ask.EndCommit 1) reply.Done (lit≤ tt, refl), (fitting 1 7 (ask.EndCommit 1) reply.Done (lit≤ tt, refl), tt)),
-  refl,
-)
+first_commits = record {
+  floors = 0 ∷ 0 ∷ [];
+  stamp = 1;
+  prepares = asked 0 4 ask.Prepare (reply.Floor 0) ∷ asked 1 5 ask.Prepare (reply.Floor 0) ∷ [];
+  ends = asked 0 6 (ask.EndCommit 1) reply.Done ∷ asked 1 7 (ask.EndCommit 1) reply.Done ∷ [];
+  ending_is = refl;
+  prepared = (fitting 0 4 ask.Prepare (reply.Floor 0) (lit≤ tt, refl), (fitting 1 5 ask.Prepare (reply.Floor 0) (lit≤ tt, refl), tt));
+  ended = (fitting 0 6 (ask.EndCommit 1) reply.Done (lit≤ tt, refl), (fitting 1 7 (ask.EndCommit 1) reply.Done (lit≤ tt, refl), tt));
+  outcome_is = refl;
+}
 
 first_attempt : IsAttempt IsPart (asker script 1) upward 1 committed
 first_attempt = record { of_work = refl; numbered = refl; parts_and_ending = (None, inl (done_at_once 1 1 0 1 (plan-1 1), inl (done_later, refl)), inl first_commits) }

@@ -1,6 +1,6 @@
 -- What the logs drew together, session by session.
-use Rattle.std.proofs.Common.{◌≡◌, ◌<◌, ◌≤◌, ℕ, zero, suc, ◌-◌, List, [], ◌∷◌, ◌++◌, length, Some, None, Option, ap, refl, subst, sym, ◌∙◌, arith}
-use Rattle.std.specs.Prelude.{◌↔◌, ◌⊎◌, inl, inr, Contains, flat_map, slice_get, unwrap_or}
+use Rattle.std.proofs.Common.{◌≡◌, ◌<◌, ◌≤◌, ℕ, zero, suc, ◌-◌, List, [], ◌∷◌, ◌++◌, length, Some, None, Option, ap, refl, subst, sym, ◌∙◌, arith, inl, inr}
+use Rattle.std.specs.Prelude.{◌↔◌, ◌⊎◌, Contains, flat_map, slice_get, unwrap_or}
 use Rattle.std.proofs.lemmas.List.Elements.{Contains-append_cases, Contains-append_left, Contains-append_right}
 use Rattle.commit_journal.specs.declared.Drawn.{Drawn}
 use Rattle.session_grammar.specs.declared.logs.LogEntry.{LogEntry}

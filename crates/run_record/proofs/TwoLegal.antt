@@ -144,16 +144,16 @@ reader_part =
     )
 
 reader_commits : Commits (asker script 1) reader
-reader_commits = (
-  1 ∷ [],
-  2,
-  asked 2 ask.Prepare (reply.Floor 1) ∷ [],
-  asked 3 (ask.EndCommit 2) reply.Done ∷ [],
-  refl,
-  (fitting 2 ask.Prepare (reply.Floor 1) (lit≤ tt, refl), tt),
-  (fitting 3 (ask.EndCommit 2) reply.Done (lit≤ tt, refl), tt),
-  refl,
-)
+reader_commits = record {
+  floors = 1 ∷ [];
+  stamp = 2;
+  prepares = asked 2 ask.Prepare (reply.Floor 1) ∷ [];
+  ends = asked 3 (ask.EndCommit 2) reply.Done ∷ [];
+  ending_is = refl;
+  prepared = (fitting 2 ask.Prepare (reply.Floor 1) (lit≤ tt, refl), tt);
+  ended = (fitting 3 (ask.EndCommit 2) reply.Done (lit≤ tt, refl), tt);
+  outcome_is = refl;
+}
 
 pub reader_reads : Reads IsPart (asker script 1) (works_of script 1) (log_of kept 1) (reader ∷ [])
 reader_reads = record {
@@ -174,16 +174,16 @@ writer_part =
     )
 
 writer_commits : Commits (asker script 2) writer
-writer_commits = (
-  0 ∷ [],
-  1,
-  asked 2 ask.Prepare (reply.Floor 0) ∷ [],
-  asked 3 (ask.EndCommit 1) reply.Done ∷ [],
-  refl,
-  (fitting 2 ask.Prepare (reply.Floor 0) (lit≤ tt, refl), tt),
-  (fitting 3 (ask.EndCommit 1) reply.Done (lit≤ tt, refl), tt),
-  refl,
-)
+writer_commits = record {
+  floors = 0 ∷ [];
+  stamp = 1;
+  prepares = asked 2 ask.Prepare (reply.Floor 0) ∷ [];
+  ends = asked 3 (ask.EndCommit 1) reply.Done ∷ [];
+  ending_is = refl;
+  prepared = (fitting 2 ask.Prepare (reply.Floor 0) (lit≤ tt, refl), tt);
+  ended = (fitting 3 (ask.EndCommit 1) reply.Done (lit≤ tt, refl), tt);
+  outcome_is = refl;
+}
 
 pub writer_reads : Reads IsPart (asker script 2) (works_of script 2) (log_of kept 2) (writer ∷ [])
 writer_reads = record {

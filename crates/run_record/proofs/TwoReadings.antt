@@ -79,8 +79,8 @@ tried outcome = record { work = inserting; ordinal = 1; parts = (inserted ∷ []
 -- it committed
 outcome_is : (outcome : Outcome) (end : Option Abort) → IsEnding (asker script 2) (tried outcome) end true → outcome ≡ Committed 1
 outcome_is outcome (Some abort) h = absurd h.0.1
-outcome_is outcome None (inl h) = h.7 ∙ ap Committed (commits_with (greatest_of h.0) h.1 h.0 h.2 h.3 h.4 h.5)
-outcome_is outcome None (inr h) = absurd (loses_none h.0 h.2 h.3 h.1 h.4 h.6 h.5 h.7 h.8 h.9 h.10)
+outcome_is outcome None (inl h) = h.outcome_is ∙ ap Committed (commits_with (greatest_of h.floors) h.stamp h.floors h.prepares h.ends h.ending_is h.prepared)
+outcome_is outcome None (inr h) = absurd (loses_none h.front h.back h.floors h.part h.prepares h.ends h.lost h.touched_is h.ending_is h.prepared h.lost_is)
 
 -- where none may follow there is one attempt
 one_try : (r : Asker) (work : Work) (ordinal : ℕ) (tries : List Attempt) → AreTries IsPart r work ordinal 0 tries → (a : Attempt) × (tries ≡ a ∷ []) × IsAttempt IsPart r work ordinal a

@@ -57,32 +57,32 @@ module _ (r : Asker) (a : Attempt) (list : List LogEntry) (asked : AreAsked list
       absurd (no_draw (list ++ a.ending) xs zs name floor answer (asked-append list a.ending asked (ends-asked a.ordinal EndUndo (touched r a) a.ending h.0)) whole)
   draw_commits None xs zs name floor answer whole (inl h) = h
   draw_commits None xs zs name floor answer whole (inr h) =
-      let lost = asked-entry h.1 (record { ordinal = a.ordinal; ask = Prepare }) PathFailed h.5 h.10 in
-      let undone = ends-asked a.ordinal EndUndo (touched r a) h.6 h.11 in
-      let ending = asked-append h.4 (h.5 ∷ h.6) (prepares-asked a.ordinal h.0 h.4 h.3 h.9) (lost, undone) in
-      absurd (no_draw (list ++ a.ending) xs zs name floor answer (asked-append list a.ending asked (subst AreAsked (sym h.8) ending)) whole)
+      let lost = asked-entry h.part (record { ordinal = a.ordinal; ask = Prepare }) PathFailed h.lost h.lost_is in
+      let undone = ends-asked a.ordinal EndUndo (touched r a) h.ends h.undone in
+      let ending = asked-append h.prepares (h.lost ∷ h.ends) (prepares-asked a.ordinal h.front h.prepares h.floors h.prepared) (lost, undone) in
+      absurd (no_draw (list ++ a.ending) xs zs name floor answer (asked-append list a.ending asked (subst AreAsked (sym h.ending_is) ending)) whole)
 
   -- and where one entry is behind its draw, the one before it is its Prepare
   commit_is : (entries : List LogEntry) (prepare commit : LogEntry) (name : TxnName) (floor stamp : ℕ) → AreAsked entries → IsAskedEntry prepare
       → list ++ a.ending ≡ entries ++ prepare ∷ Drew name floor (Stamp stamp) ∷ commit ∷ [] → Commits r a
       → (list ≡ entries) × (a.ending ≡ prepare ∷ Drew name floor (Stamp stamp) ∷ commit ∷ []) × (a.outcome ≡ Committed stamp)
   commit_is entries prepare commit name floor stamp before prepared whole c =
-      let drawn = Drew (record { session = r.number; ordinal = a.ordinal }) (greatest_of c.0) (Stamp c.1) in
+      let drawn = Drew (record { session = r.number; ordinal = a.ordinal }) (greatest_of c.floors) (Stamp c.stamp) in
       let drew = Drew name floor (Stamp stamp) in
-      let cut : (list ++ c.2) ++ drawn ∷ c.3 ≡ (entries ++ prepare ∷ []) ++ drew ∷ commit ∷ [] =
-      append_assoc list c.2 (drawn ∷ c.3) ∙ ap (λ es. list ++ es) (sym c.4) ∙ whole ∙ sym (append_assoc entries (prepare ∷ []) (drew ∷ commit ∷ [])) in
-      let left = asked-append list c.2 asked (prepares-asked a.ordinal (touched r a) c.2 c.0 c.5) in
+      let cut : (list ++ c.prepares) ++ drawn ∷ c.ends ≡ (entries ++ prepare ∷ []) ++ drew ∷ commit ∷ [] =
+      append_assoc list c.prepares (drawn ∷ c.ends) ∙ ap (λ es. list ++ es) (sym c.ending_is) ∙ whole ∙ sym (append_assoc entries (prepare ∷ []) (drew ∷ commit ∷ [])) in
+      let left = asked-append list c.prepares asked (prepares-asked a.ordinal (touched r a) c.prepares c.floors c.prepared) in
       let right = asked-append entries (prepare ∷ []) before (prepared, tt) in
-      let d = same_draw (list ++ c.2) (entries ++ prepare ∷ []) c.3 (commit ∷ []) (record { session = r.number; ordinal = a.ordinal }) name (greatest_of c.0) floor
-      (Stamp c.1) (Stamp stamp) left right cut in
-      let part = one_end a.ordinal (EndCommit c.1) (touched r a) commit (subst (AreEnds a.ordinal (EndCommit c.1) (touched r a)) d.behind c.6) in
-      let prepares = c.2 in
-      let one = one_prepare a.ordinal part.0 c.2 c.0 (subst (λ parts. ArePrepares a.ordinal parts prepares c.0) part.1 c.5) in
-      let same = before_last list entries c.2 one.0 prepare one.1 d.before in
-      let stamped : c.1 ≡ stamp = cc d.answer in (
+      let d = same_draw (list ++ c.prepares) (entries ++ prepare ∷ []) c.ends (commit ∷ []) (record { session = r.number; ordinal = a.ordinal }) name (greatest_of c.floors) floor
+      (Stamp c.stamp) (Stamp stamp) left right cut in
+      let part = one_end a.ordinal (EndCommit c.stamp) (touched r a) commit (subst (AreEnds a.ordinal (EndCommit c.stamp) (touched r a)) d.behind c.ended) in
+      let prepares = c.prepares in
+      let one = one_prepare a.ordinal part.0 c.prepares c.floors (subst (λ parts. ArePrepares a.ordinal parts prepares c.floors) part.1 c.prepared) in
+      let same = before_last list entries c.prepares one.0 prepare one.1 d.before in
+      let stamped : c.stamp ≡ stamp = cc d.answer in (
         same,
         behind_same list entries a.ending (prepare ∷ drew ∷ commit ∷ []) same whole,
-        c.7 ∙ ap Committed stamped,
+        c.outcome_is ∙ ap Committed stamped,
       )
 
 -- an attempt by its fields

@@ -133,18 +133,31 @@ abbrev pub greatest_of : List ℕ → ℕ
 greatest_of floors = fold max 0 floors
 
 -- the commit: all prepare, the stamp is drawn above the greatest floor, all end with it
-abbrev pub Commits : Asker → Attempt → Type 0
-Commits r a =
-    (floors : List ℕ) × (stamp : ℕ) × (prepares : List LogEntry) × (ends : List LogEntry)
-    × (a.ending ≡ prepares ++ Drew (record { session = r.number; ordinal = a.ordinal }) (greatest_of floors) (Stamp stamp) ∷ ends)
-    × ArePrepares a.ordinal (touched r a) prepares floors × AreEnds a.ordinal (EndCommit stamp) (touched r a) ends × (a.outcome ≡ Committed stamp)
+pub record Commits (r : Asker) (a : Attempt) : Type 0 where
+  pub floors : List ℕ
+  pub stamp : ℕ
+  pub prepares : List LogEntry
+  pub ends : List LogEntry
+  pub ending_is : a.ending ≡ prepares ++ Drew (record { session = r.number; ordinal = a.ordinal }) (greatest_of floors) (Stamp stamp) ∷ ends
+  pub prepared : ArePrepares a.ordinal (touched r a) prepares floors
+  pub ended : AreEnds a.ordinal (EndCommit stamp) (touched r a) ends
+  pub outcome_is : a.outcome ≡ Committed stamp
 
 -- the path to one of the partitions loses the Prepare, and all is undone
-abbrev pub LosesPrepare : Asker → Attempt → Type 0
-LosesPrepare r a =
-    (front : List ℕ) × (part : ℕ) × (back : List ℕ) × (floors : List ℕ) × (prepares : List LogEntry) × (lost : LogEntry) × (ends : List LogEntry)
-    × (touched r a ≡ front ++ part ∷ back) × (a.ending ≡ prepares ++ lost ∷ ends) × ArePrepares a.ordinal front prepares floors
-    × IsAsked part (record { ordinal = a.ordinal; ask = Prepare }) PathFailed lost × AreEnds a.ordinal EndUndo (touched r a) ends × (a.outcome ≡ Aborted PathLost)
+pub record LosesPrepare (r : Asker) (a : Attempt) : Type 0 where
+  pub front : List ℕ
+  pub part : ℕ
+  pub back : List ℕ
+  pub floors : List ℕ
+  pub prepares : List LogEntry
+  pub lost : LogEntry
+  pub ends : List LogEntry
+  pub touched_is : touched r a ≡ front ++ part ∷ back
+  pub ending_is : a.ending ≡ prepares ++ lost ∷ ends
+  pub prepared : ArePrepares a.ordinal front prepares floors
+  pub lost_is : IsAsked part (record { ordinal = a.ordinal; ask = Prepare }) PathFailed lost
+  pub undone : AreEnds a.ordinal EndUndo (touched r a) ends
+  pub outcome_is : a.outcome ≡ Aborted PathLost
 
 -- what follows the statements: undone where one failed or the script rolls back, else committed
 abbrev pub IsEnding : Asker → Attempt → Option Abort → Bool → Type 0

@@ -71,37 +71,37 @@ module _ (r : Asker) (t : Trying) (seen : List ℕ) where
     ending_leads None false h =
         out (from None false) a.ending false RolledBack refl h.1 refl (ends_lead EndUndo (in_order r seen) false a.ending (ends_here EndUndo a.ending h.0))
     ending_leads None true (inl h) =
-        let floors = h.0 in
-        let stamp = h.1 in
-        let prepares = h.2 in
-        let ends = h.3 in
-        let asked = subst (λ o. ArePrepares o (in_order r seen) prepares floors) numbered (subst (λ parts. ArePrepares a.ordinal parts prepares floors) (sym ordered) h.5) in
+        let floors = h.floors in
+        let stamp = h.stamp in
+        let prepares = h.prepares in
+        let ends = h.ends in
+        let asked = subst (λ o. ArePrepares o (in_order r seen) prepares floors) numbered (subst (λ parts. ArePrepares a.ordinal parts prepares floors) (sym ordered) h.prepared) in
         let first : Leads r (prepares_at t seen (in_order r seen) 0) prepares (At t seen (Stamps (greatest_of floors))) =
         subst (λ parts. Leads r (prepares_at t seen parts 0) prepares (At t seen (Stamps (greatest_of floors)))) (append-nil (in_order r seen)) (prepares_lead (in_order r seen) [] 0 prepares floors asked) in
         let named : record { session = r.number; ordinal = a.ordinal } ≡ record { session = r.number; ordinal = t.ordinal } = ap (λ o. record { session = r.number; ordinal = o }) numbered in
         let drew = Drew (record { session = r.number; ordinal = a.ordinal }) (greatest_of floors) (Stamp stamp) in
         let rest : Leads r (At t seen (Stamps (greatest_of floors))) (drew ∷ ends) (behind r t false) =
-        ((named, refl), ends_lead (EndCommit stamp) (in_order r seen) false ends (ends_here (EndCommit stamp) ends h.6)) in
-        out (from None true) (prepares ++ drew ∷ ends) false (Committed stamp) h.4 h.7 refl
+        ((named, refl), ends_lead (EndCommit stamp) (in_order r seen) false ends (ends_here (EndCommit stamp) ends h.ended)) in
+        out (from None true) (prepares ++ drew ∷ ends) false (Committed stamp) h.ending_is h.outcome_is refl
         (Leads-append r prepares (drew ∷ ends) (prepares_at t seen (in_order r seen) 0) (At t seen (Stamps (greatest_of floors))) (behind r t false) first rest)
     ending_leads None true (inr h) =
-        let front = h.0 in
-        let part = h.1 in
-        let back = h.2 in
-        let floors = h.3 in
-        let prepares = h.4 in
-        let lost = h.5 in
-        let ends = h.6 in
+        let front = h.front in
+        let part = h.part in
+        let back = h.back in
+        let floors = h.floors in
+        let prepares = h.prepares in
+        let lost = h.lost in
+        let ends = h.ends in
         let floor = fold max 0 floors in
-        let asked = subst (λ o. ArePrepares o front prepares floors) numbered h.9 in
+        let asked = subst (λ o. ArePrepares o front prepares floors) numbered h.prepared in
         let first : Leads r (prepares_at t seen (in_order r seen) 0) prepares (At t seen (Prepares part back floor)) =
-        subst (λ parts. Leads r (prepares_at t seen parts 0) prepares (At t seen (Prepares part back floor))) (sym (ordered ∙ h.7)) (prepares_lead front (part ∷ back) 0 prepares floors asked) in
-        let d = asked_does part (asking a.ordinal Prepare) PathFailed lost h.10 in
+        subst (λ parts. Leads r (prepares_at t seen parts 0) prepares (At t seen (Prepares part back floor))) (sym (ordered ∙ h.touched_is)) (prepares_lead front (part ∷ back) 0 prepares floors asked) in
+        let d = asked_does part (asking a.ordinal Prepare) PathFailed lost h.lost_is in
         let does = subst (λ o. Does (Send part (asking o Prepare)) lost) numbered d.0 in
-        let undoes : Leads r (undone r t seen false) ends (behind r t false) = ends_lead EndUndo (in_order r seen) false ends (ends_here EndUndo ends h.11) in
+        let undoes : Leads r (undone r t seen false) ends (behind r t false) = ends_lead EndUndo (in_order r seen) false ends (ends_here EndUndo ends h.undone) in
         let rest : Leads r (At t seen (Prepares part back floor)) (lost ∷ ends) (behind r t false) =
         (does, subst (λ x. Leads r (after_prepare r t seen back floor x) ends (behind r t false)) (sym d.1) undoes) in
-        out (from None true) (prepares ++ lost ∷ ends) false (Aborted PathLost) h.8 h.12 refl
+        out (from None true) (prepares ++ lost ∷ ends) false (Aborted PathLost) h.ending_is h.outcome_is refl
         (Leads-append r prepares (lost ∷ ends) (prepares_at t seen (in_order r seen) 0) (At t seen (Prepares part back floor)) (behind r t false) first rest)
 
     pub ending_on : (end : Option Abort) → IsEnding r a end t.work.commit → Leads r (parts_out r t seen end) a.ending (behind r t (is_lock_end a.outcome))

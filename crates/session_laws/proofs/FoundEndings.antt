@@ -173,7 +173,16 @@ module _ (r : Asker) (t : Trying) (seen : List ℕ) where
           outcome = Committed d.stamp;
           rest = e.rest;
           entries = p.entries ∙ ap (λ x. p.prepares ++ x) (d.entries ∙ ap (λ x. drew ∷ x) e.entries) ∙ sym (append_assoc p.prepares (drew ∷ e.ends) e.rest);
-          is = inl (p.floors, d.stamp, p.prepares, e.ends, refl, are, ends_there (EndCommit d.stamp) e.ends e.are, refl);
+          is = inl (record {
+            floors = p.floors;
+            stamp = d.stamp;
+            prepares = p.prepares;
+            ends = e.ends;
+            ending_is = refl;
+            prepared = are;
+            ended = ends_there (EndCommit d.stamp) e.ends e.are;
+            outcome_is = refl;
+          });
           leads = e.leads;
         }
 
@@ -185,7 +194,21 @@ module _ (r : Asker) (t : Trying) (seen : List ℕ) where
           outcome = Aborted PathLost;
           rest = e.rest;
           entries = p.entries ∙ ap (λ x. p.prepares ++ p.lost ∷ x) e.entries ∙ sym (append_assoc p.prepares (p.lost ∷ e.ends) e.rest);
-          is = inr (p.front, p.part, p.back, p.floors, p.prepares, p.lost, e.ends, (sym ordered ∙ p.are_parts), refl, p.are, p.loses, ends_there EndUndo e.ends e.are, refl);
+          is = inr (record {
+            front = p.front;
+            part = p.part;
+            back = p.back;
+            floors = p.floors;
+            prepares = p.prepares;
+            lost = p.lost;
+            ends = e.ends;
+            touched_is = sym ordered ∙ p.are_parts;
+            ending_is = refl;
+            prepared = p.are;
+            lost_is = p.loses;
+            undone = ends_there EndUndo e.ends e.are;
+            outcome_is = refl;
+          });
           leads = e.leads;
         }
 

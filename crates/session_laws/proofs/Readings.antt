@@ -143,36 +143,36 @@ module _ (r : Asker) (work : Work) (ordinal : ℕ) (parts : List (List LogEntry)
   commits_same : (xs ys us vs : List LogEntry) (a b : Outcome) → Commits r (of xs a) → Commits r (of ys b) → xs ++ us ≡ ys ++ vs → SameEnding xs ys a b
   commits_same xs ys us vs a b h k is =
       let name : TxnName = record { session = r.number; ordinal = ordinal } in
-      let d = Drew name (greatest_of h.0) (Stamp h.1) in
-      let e = Drew name (greatest_of k.0) (Stamp k.1) in
-      let all = whole xs ys us vs (h.2 ++ d ∷ h.3) (k.2 ++ e ∷ k.3) h.4 k.4 is in
-      let split = sym (append_assoc h.2 (d ∷ h.3) us) ∙ all ∙ append_assoc k.2 (e ∷ k.3) vs in
-      let same = commit_same ordinal (touched r (of xs a)) (touched r (of ys b)) h.2 k.2 (h.3 ++ us) (k.3 ++ vs) h.0 k.0 name name (greatest_of h.0) (greatest_of k.0) (Stamp h.1) (Stamp k.1) h.5 k.5 split in
-      let ends = ends_same ordinal (EndCommit h.1) (EndCommit k.1) (touched r (of xs a)) h.3 k.3 us vs h.6 k.6 same.behind in
-      let stamps = stamp_of name name (greatest_of h.0) (greatest_of k.0) h.1 k.1 same.drew in
+      let d = Drew name (greatest_of h.floors) (Stamp h.stamp) in
+      let e = Drew name (greatest_of k.floors) (Stamp k.stamp) in
+      let all = whole xs ys us vs (h.prepares ++ d ∷ h.ends) (k.prepares ++ e ∷ k.ends) h.ending_is k.ending_is is in
+      let split = sym (append_assoc h.prepares (d ∷ h.ends) us) ∙ all ∙ append_assoc k.prepares (e ∷ k.ends) vs in
+      let same = commit_same ordinal (touched r (of xs a)) (touched r (of ys b)) h.prepares k.prepares (h.ends ++ us) (k.ends ++ vs) h.floors k.floors name name (greatest_of h.floors) (greatest_of k.floors) (Stamp h.stamp) (Stamp k.stamp) h.prepared k.prepared split in
+      let ends = ends_same ordinal (EndCommit h.stamp) (EndCommit k.stamp) (touched r (of xs a)) h.ends k.ends us vs h.ended k.ended same.behind in
+      let stamps = stamp_of name name (greatest_of h.floors) (greatest_of k.floors) h.stamp k.stamp same.drew in
       record {
-        ending = h.4 ∙ ap (λ x. x ++ d ∷ h.3) same.prepares ∙ ap (λ x. k.2 ++ x ∷ h.3) same.drew ∙ ap (λ x. k.2 ++ e ∷ x) ends ∙ sym k.4;
-        outcome = h.7 ∙ ap Committed stamps ∙ sym k.7;
+        ending = h.ending_is ∙ ap (λ x. x ++ d ∷ h.ends) same.prepares ∙ ap (λ x. k.prepares ++ x ∷ h.ends) same.drew ∙ ap (λ x. k.prepares ++ e ∷ x) ends ∙ sym k.ending_is;
+        outcome = h.outcome_is ∙ ap Committed stamps ∙ sym k.outcome_is;
       }
 
   loses_same : (xs ys us vs : List LogEntry) (a b : Outcome) → LosesPrepare r (of xs a) → LosesPrepare r (of ys b) → xs ++ us ≡ ys ++ vs → SameEnding xs ys a b
   loses_same xs ys us vs a b h k is =
-      let all = whole xs ys us vs (h.4 ++ h.5 ∷ h.6) (k.4 ++ k.5 ∷ k.6) h.8 k.8 is in
-      let split = sym (append_assoc h.4 (h.5 ∷ h.6) us) ∙ all ∙ append_assoc k.4 (k.5 ∷ k.6) vs in
-      let same = lost_same ordinal h.0 k.0 h.4 k.4 (h.6 ++ us) (k.6 ++ vs) h.3 k.3 h.5 k.5 h.9 k.9 (h.1, h.10) (k.1, k.10) split in
-      let ends = ends_same ordinal EndUndo EndUndo (touched r (of xs a)) h.6 k.6 us vs h.11 k.11 same.behind in
+      let all = whole xs ys us vs (h.prepares ++ h.lost ∷ h.ends) (k.prepares ++ k.lost ∷ k.ends) h.ending_is k.ending_is is in
+      let split = sym (append_assoc h.prepares (h.lost ∷ h.ends) us) ∙ all ∙ append_assoc k.prepares (k.lost ∷ k.ends) vs in
+      let same = lost_same ordinal h.front k.front h.prepares k.prepares (h.ends ++ us) (k.ends ++ vs) h.floors k.floors h.lost k.lost h.prepared k.prepared (h.part, h.lost_is) (k.part, k.lost_is) split in
+      let ends = ends_same ordinal EndUndo EndUndo (touched r (of xs a)) h.ends k.ends us vs h.undone k.undone same.behind in
       record {
-        ending = h.8 ∙ ap (λ x. x ++ h.5 ∷ h.6) same.prepares ∙ ap (λ x. k.4 ++ x ∷ h.6) same.drew ∙ ap (λ x. k.4 ++ k.5 ∷ x) ends ∙ sym k.8;
-        outcome = h.12 ∙ sym k.12;
+        ending = h.ending_is ∙ ap (λ x. x ++ h.lost ∷ h.ends) same.prepares ∙ ap (λ x. k.prepares ++ x ∷ h.ends) same.drew ∙ ap (λ x. k.prepares ++ k.lost ∷ x) ends ∙ sym k.ending_is;
+        outcome = h.outcome_is ∙ sym k.outcome_is;
       }
 
   never_both : (xs ys us vs : List LogEntry) (a b : Outcome) → Commits r (of xs a) → LosesPrepare r (of ys b) → xs ++ us ≡ ys ++ vs → ⊥
   never_both xs ys us vs a b h k is =
       let name : TxnName = record { session = r.number; ordinal = ordinal } in
-      let d = Drew name (greatest_of h.0) (Stamp h.1) in
-      let all = whole xs ys us vs (h.2 ++ d ∷ h.3) (k.4 ++ k.5 ∷ k.6) h.4 k.8 is in
-      let split = sym (append_assoc h.2 (d ∷ h.3) us) ∙ all ∙ append_assoc k.4 (k.5 ∷ k.6) vs in
-      drew_or_lost ordinal (touched r (of xs a)) k.0 h.2 k.4 (h.3 ++ us) (k.6 ++ vs) h.0 k.3 name (greatest_of h.0) (Stamp h.1) k.5 h.5 k.9 (k.1, k.10) split
+      let d = Drew name (greatest_of h.floors) (Stamp h.stamp) in
+      let all = whole xs ys us vs (h.prepares ++ d ∷ h.ends) (k.prepares ++ k.lost ∷ k.ends) h.ending_is k.ending_is is in
+      let split = sym (append_assoc h.prepares (d ∷ h.ends) us) ∙ all ∙ append_assoc k.prepares (k.lost ∷ k.ends) vs in
+      drew_or_lost ordinal (touched r (of xs a)) k.front h.prepares k.prepares (h.ends ++ us) (k.ends ++ vs) h.floors k.floors name (greatest_of h.floors) (Stamp h.stamp) k.lost h.prepared k.prepared (k.part, k.lost_is) split
 
   -- what ends an attempt is read in one way
   ending_same : (end : Option Abort) (commit : Bool) (xs ys us vs : List LogEntry) (a b : Outcome) → IsEnding r (of xs a) end commit → IsEnding r (of ys b) end commit → xs ++ us ≡ ys ++ vs

@@ -58,7 +58,7 @@ pub begins_in_are : (asker : Asker) (table : TableDef) (place first : ℕ) (rang
     → map (sent_in first range begin) (cut table range) ≡ begins_in asker table place found (begin_of begin)
 begins_in_are asker table place first range found begin is here = begins_are asker table place first range begin is ∙ ap (λ o. begins_in asker table place o (begin_of begin)) here
 
--- a SELECT of a range that isn't one key begin_pieces in its pieces
+-- a SELECT of a range that isn't one key begins in its pieces
 pub select_begins : (asker : Asker) (table : TableDef) (place first : ℕ) (range : KeyRange) (access : Access) (predicate : Option Expr) (filter : Option (List ℕ)) (columns : List ℕ) (sents : List Sent)
     → first ≡ first_part asker place → filter ≡ filter_code predicate → key_eq range.low range.high ≡ false → sents ≡ map (sent_in first range (Read access filter columns)) (cut table range)
     → Subsets sents ≡ select_plan asker table place access predicate columns (Some range)

@@ -50,7 +50,7 @@ tells p t j = record { reply = j.reply; state = after p t j.change }
 -- the parts at the end of t, with these cells
 abbrev pub ended_parts : Parts → TxnName → List Cell → Parts
 ended_parts q t cells =
-    record q { cells = cells; locks = released t q.locks; blocks = closed_of t q.blocks; lives = filter (λ l. not (same_txn l.name t)) q.lives; transaction_ended = slice_set q.ended (t.session - 1) t.ordinal }
+    record q { cells = cells; locks = released t q.locks; blocks = closed_of t q.blocks; lives = filter (λ l. not (same_txn l.name t)) q.lives; ended = slice_set q.ended (t.session - 1) t.ordinal }
 
 -- the parts after a change
 abbrev pub changed : Parts → TxnName → Change → Parts
