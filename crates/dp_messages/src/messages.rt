@@ -13,6 +13,7 @@ use crate::reading::{whole_envelope, whole_reply};
 use crate::replies::Reply;
 use crate::requests::Envelope;
 use crate::writing::{put_envelope, put_reply};
+use mail_queue::Letter;
 use sql_base::NoMemory;
 use std::alloc::Global;
 use std::marker::Model;
@@ -39,6 +40,15 @@ impl Message {
         ensures bytes { result.now ≡ self.now }
         ensures spelled { IsRequest self.now }
     {
+        self.bytes.as_slice()
+    }
+}
+
+/// In a mail its bytes are its spelling.
+impl Letter for Message {
+    ghost spelling = { λ message. message };
+
+    fn bytes(&self) -> &[u8] {
         self.bytes.as_slice()
     }
 }

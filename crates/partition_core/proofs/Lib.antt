@@ -7,6 +7,7 @@ pub mod KeptReplies
 pub mod Opened
 pub mod OpenersKept
 pub mod Replays
+pub mod Rooms
 pub mod Seats
 pub mod Serving
 pub mod SingleKeys

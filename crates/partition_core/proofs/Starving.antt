@@ -1,6 +1,7 @@
 -- What is seen of an opener, and what a starved sync leaves.
 use Rattle.std.proofs.Common.{◌≡◌, ◌<◌, ◌-◌, inl, inr, ℕ, List, length, map, Option, Some, None, false, refl, ap, sym, ◌∙◌, subst, arith}
 use Rattle.std.specs.Prelude.{slice_get, slice_set, unwrap_or}
+use Rattle.std.proofs.lemmas.Bool.{false≢true}
 use Rattle.sync_messages.specs.Openers.{IsArrival, seat_of, starved_at}
 use Rattle.sync_messages.specs.declared.Arrival.TheVariants as arrival
 use Rattle.dp_messages.specs.declared.requests.Request.{Request}
@@ -11,6 +12,7 @@ use Rattle.partition_state.specs.declared.entries.Entry.{Entry}
 use Rattle.partition_laws.specs.Keeping.{Keeps, RowsKeep}
 use Rattle.partition_core.specs.Kept.{AreMarked, Kept, Serves, marked, opener_in, served, starved}
 use Rattle.partition_core.specs.Scaffold.Contents.{Parts, IsPlace, IsRowAt, IsServing, entry_at, kept_of, mark_of, opener_by, state_of}
+use Rattle.partition_core.specs.Settling.{ServesSettling, settles}
 use Rattle.partition_core.proofs.Seats.{IsSeen, length-slice_set, mark-seen, opener-seen, openers-starved, seat-is, seat-seen, seats-starved}
 use Rattle.sql_base.proofs.ListFacts.{map_set}
 
@@ -92,3 +94,16 @@ serves-again q opener sync request serving arrives = let s = seen q opener servi
 
 pub serves-old : (q : Parts) (opener sync : ℕ) (request : Request) → IsServing q → IsArrival (seat_of q.seats opener) sync arrival.Old → Serves (kept_of q) opener sync request answer.Old (kept_of q)
 serves-old q opener sync request serving arrives = let s = seen q opener serving in (omega (arith, s.last, arrives), refl)
+
+-- what isn't new settles nothing, and what settles isn't starved
+pub settling-repeat : (q : Parts) (opener sync : ℕ) (request : Request) → IsServing q → IsArrival (seat_of q.seats opener) sync arrival.Repeat → ServesSettling (kept_of q) opener sync request answer.Repeat
+settling-repeat q opener sync request serving arrives = λ fresh s. let is = seen q opener serving in absurd (omega (arith, is.last, arrives.0, fresh))
+
+pub settling-again : (q : Parts) (opener sync : ℕ) (request : Request) → IsServing q → IsArrival (seat_of q.seats opener) sync arrival.Starved → ServesSettling (kept_of q) opener sync request answer.Starved
+settling-again q opener sync request serving arrives = λ fresh s. let is = seen q opener serving in absurd (omega (arith, is.last, arrives.0, fresh))
+
+pub settling-old : (q : Parts) (opener sync : ℕ) (request : Request) → IsServing q → IsArrival (seat_of q.seats opener) sync arrival.Old → ServesSettling (kept_of q) opener sync request answer.Old
+settling-old q opener sync request serving arrives = λ fresh s. let is = seen q opener serving in absurd (omega (arith, is.last, arrives, fresh))
+
+pub settling-starved : (q : Parts) (opener sync : ℕ) (request : Request) → settles (state_of q) (record { session = opener; ordinal = request.ordinal }) request.ask ≡ false → ServesSettling (kept_of q) opener sync request answer.Starved
+settling-starved q opener sync request none = λ fresh s. absurd (false≢true (sym none ∙ s))

@@ -1,2 +1,4 @@
 pub mod Kept
+pub mod Settling
+pub mod Rooms
 pub mod Scaffold

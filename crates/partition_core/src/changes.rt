@@ -2,11 +2,12 @@
 ghost use Rattle.std.specs.Prelude.{◌≡◌, ◌<◌, length, slice_set, vec_len, vec_capacity};
 ghost use Rattle.sql_base.specs.Scripts.{Lies};
 ghost use Rattle.subset_blocks.specs.Blocks.{NumbersDiffer};
-ghost use Rattle.partition_core.specs.Scaffold.Contents.{parts_of, HasRoom};
+ghost use Rattle.partition_core.specs.Scaffold.Contents.{parts_of, state_of};
 ghost use Rattle.partition_core.specs.Scaffold.Changes.{blocks_with, changed, ended_parts, locks_with, plans_in};
+ghost use Rattle.partition_core.specs.Rooms.{HasRoom, HasRoomFor, takes_kept_back};
 
 use crate::contents::Contents;
-use crate::lives::{dismiss, enlist, set_floor};
+use crate::lives::{dismiss, enlist, is_live, is_unprepared, set_floor};
 use dp_messages::Reply;
 use lock_tables::LockTable;
 use quantum_runner::{Planned, Work, carry_out};
@@ -93,13 +94,44 @@ pub fn count_plans(change: &Change) -> usize
 }
 
 impl Contents {
+    /// Whether the change prepares or ends a live transaction, so that its entry has room that is kept back.
+    pub fn takes_kept_back(&self, t: TxnName, change: &Change) -> bool
+        ensures { result ≡ takes_kept_back (state_of (parts_of self.now)) t change.now }
+    {
+        match change {
+            Change::Stays => false,
+            Change::Begins {
+                plans: _,
+                granule: _,
+                opened: _,
+            } => false,
+            Change::Advances {
+                plans: _,
+                subset: _,
+                last: _,
+            } => false,
+            Change::Closes {
+                plans: _,
+                subset: _,
+            } => false,
+            Change::Inserts {
+                key: _,
+                row: _,
+                lock: _,
+            } => false,
+            Change::Prepares => is_unprepared(&self.lives, t),
+            Change::Commits { stamp: _ } => is_live(&self.lives, t),
+            Change::Undoes => is_live(&self.lives, t),
+        }
+    }
+
     /// Makes the change, for which there is room.
     pub fn apply(&mut self, t: TxnName, change: Change)
         requires opener { Lies 1 8 t.session }
         requires numbers { NumbersDiffer self.old.blocks.items }
-        requires room { HasRoom (length (plans_in change)) self.old }
+        requires room { HasRoomFor change self.old }
         ensures state { parts_of self.new ≡ changed (parts_of self.old) t change }
-        ensures room { vec_len self.new.history < vec_capacity self.new.history }
+        ensures history { self.new.history ≡ self.old.history }
     {
         match change {
             Change::Stays => {}
@@ -107,12 +139,7 @@ impl Contents {
                 plans,
                 granule,
                 opened,
-            } => {
-                enlist(&mut self.lives, t);
-                carry_out(&mut self.store, plans);
-                add_lock(&mut self.store.locks, granule);
-                add_block(&mut self.blocks, opened);
-            }
+            } => self.begin(t, plans, granule, opened),
             Change::Advances {
                 plans,
                 subset,
@@ -125,15 +152,40 @@ impl Contents {
                 carry_out(&mut self.store, plans);
                 close(&mut self.blocks, subset);
             }
-            Change::Inserts { key, row, lock } => {
-                enlist(&mut self.lives, t);
-                self.store.file.put(key, row, t);
-                self.store.locks.admit(lock);
-            }
+            Change::Inserts { key, row, lock } => self.put(t, key, row, lock),
             Change::Prepares => set_floor(&mut self.lives, t, self.high),
             Change::Commits { stamp } => self.commit(t, stamp),
             Change::Undoes => self.undo(t),
         }
+    }
+
+    /// The transaction is live, with changes made, a granule locked and a subset under way.
+    fn begin(
+        &mut self,
+        t: TxnName,
+        plans: List<Planned>,
+        granule: Option<Lock>,
+        opened: Option<Numbered<Work>>,
+    )
+        requires room { HasRoom (length plans) self.old }
+        ensures state { parts_of self.new ≡ changed (parts_of self.old) t (Change.Begins plans granule opened) }
+        ensures history { self.new.history ≡ self.old.history }
+    {
+        enlist(&mut self.lives, t);
+        carry_out(&mut self.store, plans);
+        add_lock(&mut self.store.locks, granule);
+        add_block(&mut self.blocks, opened);
+    }
+
+    /// The transaction is live, with a record more and the lock on its key.
+    fn put(&mut self, t: TxnName, key: Key, row: Row, lock: Lock)
+        requires room { HasRoom 0 self.old }
+        ensures state { parts_of self.new ≡ changed (parts_of self.old) t (Change.Inserts key row lock) }
+        ensures history { self.new.history ≡ self.old.history }
+    {
+        enlist(&mut self.lives, t);
+        self.store.file.put(key, row, t);
+        self.store.locks.admit(lock);
     }
 
     fn commit(&mut self, t: TxnName, stamp: u64)

@@ -1,7 +1,9 @@
 //! Prepare, and the two ends.
 ghost use Rattle.std.specs.Prelude.{◌≡◌};
+ghost use Rattle.dp_messages.specs.declared.requests.Ask.TheVariants as ask;
 ghost use Rattle.partition_core.specs.Scaffold.Contents.{state_of, parts_of};
 ghost use Rattle.partition_core.specs.Scaffold.Changes.{tells, IsFitting};
+ghost use Rattle.partition_core.specs.Rooms.{IsSettled};
 ghost use Rattle.partition_state.specs.Step.{prepare, end_commit, end_undo};
 
 use crate::changes::{Change, Judgement, refusal};
@@ -15,6 +17,7 @@ impl Contents {
     pub fn prepare(&self, t: TxnName) -> Judgement
         ensures told { tells (state_of (parts_of self.now)) t result ≡ prepare (state_of (parts_of self.now)) t }
         ensures fits { IsFitting (parts_of self.now) result.change }
+        ensures settled { IsSettled (state_of (parts_of self.now)) t ask.Prepare result.change }
     {
         if !is_live(&self.lives, t) {
             return refusal(Reply::NotKnown);
@@ -32,6 +35,7 @@ impl Contents {
     pub fn end_commit(&self, t: TxnName, stamp: u64) -> Judgement
         ensures told { tells (state_of (parts_of self.now)) t result ≡ end_commit (state_of (parts_of self.now)) t stamp }
         ensures fits { IsFitting (parts_of self.now) result.change }
+        ensures settled { IsSettled (state_of (parts_of self.now)) t (ask.EndCommit stamp) result.change }
     {
         if !is_live(&self.lives, t) {
             return refusal(Reply::NotKnown);
@@ -52,6 +56,7 @@ impl Contents {
     pub fn end_undo(&self, t: TxnName) -> Judgement
         ensures told { tells (state_of (parts_of self.now)) t result ≡ end_undo (state_of (parts_of self.now)) t }
         ensures fits { IsFitting (parts_of self.now) result.change }
+        ensures settled { IsSettled (state_of (parts_of self.now)) t ask.EndUndo result.change }
     {
         Judgement {
             reply: Reply::Done,

@@ -1,8 +1,9 @@
 //! What a request comes to, by the checks before the kinds and then by kind.
-ghost use Rattle.std.specs.Prelude.{◌≡◌, ◌<◌, ◌≤◌, IfOk, slice_index_or};
+ghost use Rattle.std.specs.Prelude.{◌≡◌, ◌<◌, ◌≤◌, false, IfOk, OnErr, slice_index_or};
 ghost use Rattle.sql_base.specs.Scripts.{Lies};
 ghost use Rattle.partition_core.specs.Scaffold.Contents.{state_of, parts_of, IsServing};
 ghost use Rattle.partition_core.specs.Scaffold.Changes.{tells, IsFitting};
+ghost use Rattle.partition_core.specs.Rooms.{IsSettled};
 ghost use Rattle.partition_state.specs.Step.{answered, by_kind, is_closing, unless_prepared};
 
 use crate::changes::{Judgement, refusal};
@@ -13,12 +14,14 @@ use sql_base::{NoMemory, TxnName};
 use std::alloc::Global;
 
 impl Contents {
-    /// What a request of the transaction comes to. Nothing changes yet.
+    /// What a request of the transaction comes to. Nothing changes yet. A Prepare or an End takes no memory.
     pub fn judge(&self, alloc: Global, t: TxnName, ask: &Ask) -> Result<Judgement, NoMemory>
         requires opener { Lies 1 8 t.session }
         requires serving { IsServing (parts_of self.now) }
         ensures told { IfOk result (λ j. tells (state_of (parts_of self.now)) t j ≡ answered (state_of (parts_of self.now)) t ask.now) }
         ensures fits { IfOk result (λ j. IsFitting (parts_of self.now) j.change) }
+        ensures settled { IfOk result (λ j. IsSettled (state_of (parts_of self.now)) t ask.now j.change) }
+        ensures closing { OnErr result (is_closing ask.now ≡ false) }
     {
         let ended = self.ended[t.session as usize - 1];
         if t.ordinal <= ended {
@@ -45,6 +48,8 @@ impl Contents {
         requires serving { IsServing (parts_of self.now) }
         ensures told { IfOk result (λ j. tells (state_of (parts_of self.now)) t j ≡ unless_prepared (state_of (parts_of self.now)) t ask.now (Some floor)) }
         ensures fits { IfOk result (λ j. IsFitting (parts_of self.now) j.change) }
+        ensures settled { IfOk result (λ j. IsSettled (state_of (parts_of self.now)) t ask.now j.change) }
+        ensures closing { OnErr result (is_closing ask.now ≡ false) }
     {
         if is_closing(ask) {
             self.judge_kind(alloc, t, ask)
@@ -57,6 +62,8 @@ impl Contents {
         requires serving { IsServing (parts_of self.now) }
         ensures told { IfOk result (λ j. tells (state_of (parts_of self.now)) t j ≡ by_kind (state_of (parts_of self.now)) t ask.now) }
         ensures fits { IfOk result (λ j. IsFitting (parts_of self.now) j.change) }
+        ensures settled { IfOk result (λ j. IsSettled (state_of (parts_of self.now)) t ask.now j.change) }
+        ensures closing { OnErr result (is_closing ask.now ≡ false) }
     {
         match ask {
             Ask::BeginRead {

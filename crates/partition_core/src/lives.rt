@@ -1,5 +1,5 @@
 //! The live transactions.
-ghost use Rattle.std.specs.Prelude.{◌≡◌, ◌<◌, ◌&&◌, ◌==◌, not, find, filter, map, option_and_then, vec_len, vec_capacity};
+ghost use Rattle.std.specs.Prelude.{◌≡◌, ◌<◌, ◌&&◌, ◌==◌, is_none, not, find, filter, map, option_and_then, vec_len, vec_capacity};
 ghost use Rattle.std.specs.List.{list_any};
 ghost use Rattle.sql_base.specs.Locks.{same_txn};
 ghost use Rattle.partition_state.specs.State.{enlisted};
@@ -24,6 +24,13 @@ pub fn floor_of(lives: &[Live], t: TxnName) -> Option<u64>
         }
     }
     None
+}
+
+/// Whether the transaction is live and hasn't prepared.
+pub fn is_unprepared(lives: &[Live], t: TxnName) -> bool
+    ensures { result ≡ (list_any (λ l. same_txn l.name t) lives.now && is_none (option_and_then (λ l. l.floor) (find (λ l. same_txn l.name t) lives.now))) }
+{
+    is_live(lives, t) && floor_of(lives, t).is_none()
 }
 
 /// Another attempt of the opener that is live.

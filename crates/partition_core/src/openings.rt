@@ -7,6 +7,7 @@ ghost use Rattle.key_sequenced.specs.Cells.{AreCells};
 ghost use Rattle.partition_state.specs.State.{new_cell, opening};
 ghost use Rattle.partition_core.specs.Scaffold.Contents.{kept_of, parts_of, IsServing};
 ghost use Rattle.partition_core.specs.Kept.{opened_with};
+ghost use Rattle.partition_core.specs.Rooms.{IsKeptBack};
 
 use crate::contents::Contents;
 use crate::firsts::{first_keys, key_width};
@@ -31,6 +32,7 @@ impl Contents {
         requires rows { AreRecords table.now rows.now }
         ensures opened { IfOk result (λ c. kept_of (parts_of c) ≡ opened_with (opening table.now place limits rows.now)) }
         ensures serving { IfOk result (λ c. IsServing (parts_of c)) }
+        ensures room { IfOk result IsKeptBack }
     {
         Ok(Contents {
             table: CheckedTable::new(alloc, table)?,

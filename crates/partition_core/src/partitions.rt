@@ -5,6 +5,7 @@ ghost use Rattle.sql_base.specs.Tables.{IsTable};
 ghost use Rattle.sql_base.specs.Rows.{AreRecords};
 ghost use Rattle.partition_state.specs.State.{opening};
 ghost use Rattle.partition_core.specs.Kept.{AreMarked, IsReplayed, Serves, Picks, opened_with, opener_in, rows_in, starved};
+ghost use Rattle.partition_core.specs.Settling.{ServesSettling};
 
 use crate::contents::Contents;
 use dp_messages::{Reply, Request};
@@ -55,11 +56,12 @@ impl Model for Partition {
 
     ghost coded = { Prim.hlevel (codes, expr.the_row.coded) };
 
-    ghost use Rattle.partition_core.specs.Scaffold.Contents.{kept_of, parts_of, IsServing};
+    ghost use Rattle.partition_core.specs.Scaffold.Contents.{kept_of, parts_of};
+    ghost use Rattle.partition_core.specs.Rooms.{IsReady};
 
     ghost view = { λ p. kept_of (parts_of p.contents) };
 
-    ghost invariant = { λ p. IsServing (parts_of p.contents) };
+    ghost invariant = { λ p. IsReady p.contents };
 }
 
 impl Partition {
@@ -82,10 +84,12 @@ impl Partition {
 
     /// Serves a request of an opener from 1 to 8, whose sync and ordinal count from 1. Where the sync is above the
     /// opener's last, the request takes one step and one entry is added; for want of memory the sync is marked as
-    /// starved, and nothing else changes. Where it isn't above, nothing changes.
+    /// starved, and nothing else changes. Where it isn't above, nothing changes. The Prepare that prepares a live
+    /// transaction and the End that ends one need no memory: room for their entries was taken when it became live.
     pub fn serve(&mut self, alloc: Global, opener: u32, sync: u64, request: &Request) -> Served
         requires opener { Lies 1 8 opener }
-        ensures { Serves self.old opener sync request.now result self.new }
+        ensures served { Serves self.old opener sync request.now result self.new }
+        ensures settled { ServesSettling self.old opener sync request.now result }
     {
         match self.contents.arrive(opener, sync) {
             Arrival::New => match self.contents.serve_new(alloc, opener, sync, request) {

@@ -1,5 +1,5 @@
 -- What the fields of a partition mean.
-use Rattle.std.specs.Prelude.{◌≡◌, ◌≤◌, ◌<◌, ℕ, List, [], ◌∷◌, length, map, slice_get, Option, Some, None, option_and_then, false, vec_len, vec_capacity, if◌then◌else◌}
+use Rattle.std.specs.Prelude.{◌≡◌, ◌≤◌, ◌<◌, ℕ, List, [], ◌∷◌, length, map, slice_get, Option, Some, None, option_and_then, false, if◌then◌else◌}
 use Rattle.std.specs.List.{AllByRecursion}
 use Rattle.sql_base.specs.Rows.{IsRow, key_width, kinds}
 use Rattle.sql_base.specs.Scripts.{AreLimits}
@@ -42,14 +42,6 @@ pub record Parts : Type 0 where
 abbrev pub parts_of : Contents → Parts
 parts_of c =
     record { table = c.table; place = c.place; limits = c.limits; width = c.width; kinds = c.kinds; firsts = c.firsts; rows = c.rows; cells = c.store.file.cells; locks = c.store.locks.locks; blocks = c.blocks.items; seats = c.seats; ended = c.ended; lives = c.lives.items; high = c.high; history = c.history.items }
-
--- room for one more of each, and for so many changes of cells
-pub record HasRoom (plans : ℕ) (c : Contents) : Type 0 where
-  pub cells : 0 < c.store.file.spare
-  pub locks : plans < c.store.locks.spare
-  pub blocks : vec_len c.blocks < vec_capacity c.blocks
-  pub lives : vec_len c.lives < vec_capacity c.lives
-  pub history : vec_len c.history < vec_capacity c.history
 
 -- an opener by its last entry and its last ended ordinal
 abbrev pub opener_by : ℕ → Option Entry → Opener
