@@ -4,8 +4,7 @@ use Rattle.std.proofs.lemmas.Bool.Decides.{nat_tests}
 use Rattle.std.specs.Prelude.{nat_eq, not, slice_get, ◌||◌}
 use Rattle.std.specs.List.{list_any, AllByRecursion}
 use Rattle.sql_base.specs.Tables.{all_differ}
-use Rattle.statement_round_trip.proofs.Naming.{either_false, not_true}
-use Rattle.statement_round_trip.proofs.Operands.{both_true}
+use Rattle.statement_round_trip.proofs.Tests.{both_true, either_false, not_true}
 
 -- none of these is one of those
 abbrev pub Apart : List ℕ → List ℕ → Type 0

@@ -57,7 +57,7 @@ pub record Value (table : TableDef) (k : base.Kind) (e : Expr) (x : Operand) : T
   pub small : nat_lt 32 x.depth || nat_lt 8192 x.code ≡ false
   pub code : x.code ≡ min 8193 (length (code_of e))
 
-value_known : (table : TableDef) (k : base.Kind) (e : Expr) → IsExpr table k e → Value table k e (summary table.columns e)
+pub value_known : (table : TableDef) (k : base.Kind) (e : Expr) → IsExpr table k e → Value table k e (summary table.columns e)
 value_known table k e is =
     let tree = summaries_tell table.columns e (typed_leaves table e k is.typed) is.depth in
     let described = summary_describes table e k is.typed in
@@ -68,7 +68,7 @@ value_known table k e is =
       code = (described e tree).code;
     }
 
-value_reads : (table : TableDef) → IsTable table → (k : base.Kind) (e : Expr) → IsExpr table k e → (s : List Symbol) (d : Draft) (v : Word) (ws : List Word) (Last : Draft → Type 0)
+pub value_reads : (table : TableDef) → IsTable table → (k : base.Kind) (e : Expr) → IsExpr table k e → (s : List Symbol) (d : Draft) (v : Word) (ws : List Word) (Last : Draft → Type 0)
     → columns_in d.scope d ≡ Some table.columns → EndsExpression v
     → ((place : ℕ) → Reads s (with_operand (summary table.columns e) (expression_begins place d)) (v ∷ ws) Last)
     → Reads (part parts.Expression ∷ part parts.AndRest ∷ part parts.OrRest ∷ s) d (expr_words table.columns e ++ v ∷ ws) Last

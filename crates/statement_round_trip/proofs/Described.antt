@@ -15,7 +15,7 @@ use Rattle.statement_draft.specs.declared.kinds.Operand.{Operand}
 use Rattle.statement_draft.proofs.Summaries.{binary_describes, name_describes, negation_describes, negative_describes, number_describes, text_describes}
 use Rattle.statement_round_trip.specs.Rereading.{summary, summary_step, int_operand}
 use Rattle.statement_round_trip.proofs.Leaves.{both_of_arith, both_of_compare, both_of_truths}
-use Rattle.statement_round_trip.proofs.Operands.{Cases, expr_induction}
+use Rattle.statement_round_trip.proofs.ExpressionsRead.{Cases, expr_induction}
 
 -- a well-typed expression is described by what the reader knows of it
 abbrev Described : TableDef → Expr → Type 0

@@ -18,7 +18,7 @@ use Rattle.statement_grammar.specs.declared.symbols.Symbol.{Symbol}
 use Rattle.statement_grammar.specs.declared.symbols.Symbol.TheVariants as symbols
 use Rattle.statement_printer.specs.Printing.{key, expr_words}
 use Rattle.statement_round_trip.proofs.Described.{small, summary_describes}
-use Rattle.statement_round_trip.proofs.Operands.{one}
+use Rattle.statement_round_trip.proofs.Tokens.{one}
 use Rattle.statement_round_trip.proofs.Steps.{read_end, read_part}
 use Rattle.statement_draft.specs.declared.draft.Draft.{Draft}
 use Rattle.statement_draft.specs.declared.faults.Fault.{Fault}
@@ -74,7 +74,7 @@ expressions_end = record {
   filter = record { product = refl; sum = refl; compare = refl; both = refl; either = refl };
 }
 
-as_truth : (x : Option Kind) → option_map meant x ≡ Some base.OfTruth → x ≡ Some kind.Truth
+pub as_truth : (x : Option Kind) → option_map meant x ≡ Some base.OfTruth → x ≡ Some kind.Truth
 as_truth None h = absurd (cc (h))
 as_truth (Some kind.Truth) h = refl
 as_truth (Some kind.Number) h = absurd (cc (h))

@@ -22,16 +22,13 @@ use Rattle.statement_draft.specs.declared.draft.Scope.{Scope}
 use Rattle.statement_draft.specs.declared.draft.StatementKind.TheVariants as kinds
 use Rattle.statement_printer.specs.Printing.{insert_words, into_words, statement_words}
 use Rattle.statement_round_trip.specs.Onward.{Reads}
+use Rattle.statement_round_trip.specs.WholeScripts.{record_of}
 use Rattle.statement_round_trip.proofs.Beginning.{counted, done, more_begin, FewStatements}
 use Rattle.statement_round_trip.proofs.Onward.{from, spelled}
 use Rattle.statement_round_trip.proofs.StatementsRead.{statement_reads, with_record, HasRoom}
 use Rattle.statement_round_trip.proofs.TableNames.{AreDeclared}
 
 -- how many records the statements count for
-abbrev pub record_of : Statement → ℕ
-record_of (statement.Insert t row) = 1
-record_of st = 0
-
 abbrev pub records_of : List Statement → ℕ
 records_of [] = 0
 records_of (st ∷ sts) = record_of st + records_of sts
@@ -57,7 +54,7 @@ held names e row new d v w q r m n a b c =
 none_more : (n : ℕ) → n ≡ n + 0
 none_more n = omega arith
 
-one_more : (most n : ℕ) → n ≤ most → min most n + 1 ≡ n + 1
+pub one_more : (most n : ℕ) → n ≤ most → min most n + 1 ≡ n + 1
 one_more most n h = omega (arith, h)
 
 pub one_read : (st : Statement) (names other : Scope) (e f : NewExpression) (row rows : NewRow) (new : NewStatement) (d : Draft) (before : List Statement) (records count : ℕ)
@@ -95,7 +92,7 @@ next_of tables (st ∷ sts) v ws =
     let n = begins tables st (flat_map (statement_words tables) sts ++ v ∷ ws) in
     record { first = n.first; rest = n.rest; is = append_assoc (statement_words tables st) (flat_map (statement_words tables) sts) (v ∷ ws) ∙ n.is }
 
-not_above : (most x y : ℕ) → x ≤ y → y ≤ most → nat_lt most x ≡ false
+pub not_above : (most x y : ℕ) → x ≤ y → y ≤ most → nat_lt most x ≡ false
 not_above most x y h k = grind (arith, nat_tests, h, k)
 
 pub few_statements : (count n restart : ℕ) → (count + suc n) * (restart + 1) ≤ 500 → nat_lt 500 ((min 500 count + 1) * (restart + 1)) ≡ false

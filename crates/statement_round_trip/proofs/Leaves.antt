@@ -10,7 +10,7 @@ use Rattle.sql_base.specs.declared.expressions.Expr.TheOpen.{Expr-F}
 use Rattle.sql_base.specs.declared.tables.Column.{Column}
 use Rattle.sql_base.specs.declared.tables.TableDef.{TableDef}
 use Rattle.statement_round_trip.specs.Rereading.{has_leaves, leaves_step}
-use Rattle.statement_round_trip.proofs.Operands.{Cases, expr_induction}
+use Rattle.statement_round_trip.proofs.ExpressionsRead.{Cases, expr_induction}
 
 -- an operator that has a kind has operands with one
 abbrev pub Both : Option Kind → Option Kind → Type 0
@@ -37,11 +37,11 @@ both_of_truths (Some (OfText n)) None h = absurd (cc (h))
 both_of_truths (Some OfTruth) None h = absurd (cc (h))
 both_of_truths (Some a) (Some b) h = (refl, refl)
 
-chosen_some : (b : Bool) (k : Kind) → is_some (cond b (Some k) None) ≡ true → b ≡ true
+pub chosen_some : (b : Bool) (k : Kind) → is_some (cond b (Some k) None) ≡ true → b ≡ true
 chosen_some true k h = refl
 chosen_some false k h = h
 
-column_there : (o : Option Column) → is_some (kind_of_column (option_map (λ (c : Column). c.kind) o)) ≡ true → is_some o ≡ true
+pub column_there : (o : Option Column) → is_some (kind_of_column (option_map (λ (c : Column). c.kind) o)) ≡ true → is_some o ≡ true
 column_there None h = h
 column_there (Some c) h = refl
 

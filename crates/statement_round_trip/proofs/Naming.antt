@@ -1,5 +1,5 @@
 -- The columns of a table are found by their names.
-use Rattle.std.proofs.Common.{◌≡◌, ◌≤◌, ℕ, zero, suc, ◌+◌, List, [], ◌∷◌, length, map, Bool, true, false, ◌||◌, Option, Some, None, cond, refl, sym, ap, subst, ◌∙◌, arith}
+use Rattle.std.proofs.Common.{◌≡◌, ◌≤◌, ℕ, zero, suc, ◌+◌, List, [], ◌∷◌, length, map, Bool, true, false, Option, Some, None, cond, sym, ap, subst, ◌∙◌, arith}
 use Rattle.std.proofs.lemmas.Bool.Decides.{nat_tests}
 use Rattle.std.proofs.lemmas.Slice.Eq.{bytes_eq-Decides}
 use Rattle.std.specs.Prelude.{slice_get, nat_le, not}
@@ -7,18 +7,10 @@ use Rattle.std.specs.List.{list_any, AllByRecursion}
 use Rattle.std.specs.Str.{bytes_eq}
 use Rattle.sql_base.specs.Tables.{all_differ}
 use Rattle.sql_base.specs.declared.tables.Column.{Column}
-use Rattle.sql_base.specs.Names.{IsShortName}
+use Rattle.sql_base.specs.Names.{IsName, IsShortName}
 use Rattle.statement_draft.specs.Names.{is_long, column_from}
 use Rattle.statement_round_trip.specs.Rereading.{ColumnsNamed}
-use Rattle.statement_round_trip.proofs.Operands.{both_true}
-
-pub either_false : (a b : Bool) → (a || b) ≡ false → (a ≡ false) × (b ≡ false)
-either_false true b h = absurd cc
-either_false false b h = (refl, h)
-
-pub not_true : (a : Bool) → not a ≡ true → a ≡ false
-not_true true h = absurd cc
-not_true false h = refl
+use Rattle.statement_round_trip.proofs.Tests.{both_true, either_false, not_true}
 
 same_column : (a b : Column) → Some a ≡ Some b → a ≡ b
 same_column a b h = cc
@@ -70,6 +62,12 @@ all_short (x ∷ xs) h = (h.0.short, all_short xs h.1)
 
 pub not_long : (name : List ℕ) → length name ≤ 30 → is_long name ≡ false
 not_long name h = grind (arith, nat_tests)
+
+-- a name that a column has
+pub name_at : (xs : List Column) (c : ℕ) (column : Column) → AllByRecursion (λ y. IsShortName y.name) xs → slice_get xs c ≡ Some column → IsName column.name
+name_at [] c column all h = absurd (no_column c column h)
+name_at (x ∷ xs) zero column all h = subst (λ (y : Column). IsName y.name) (same_column x column h) all.0.name
+name_at (x ∷ xs) (suc c) column all h = name_at xs c column all.1 h
 
 pub columns_named : ColumnsNamed
 columns_named table t c column h = (named_from 0 c table.columns column (omega (arith, t.columns)) t.names_differ h ∙ zero_on c, not_long column.name (short_name table.columns c column (all_short table.columns t.column_names) h))

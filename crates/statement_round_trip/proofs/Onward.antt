@@ -11,7 +11,7 @@ use Rattle.statement_draft.specs.Judging.{ended, read_from}
 use Rattle.statement_draft.specs.declared.draft.Draft.{Draft}
 use Rattle.statement_round_trip.specs.Onward.{Reads}
 use Rattle.statement_round_trip.specs.Rereading.{words_in}
-use Rattle.statement_round_trip.proofs.Operands.{halves, one}
+use Rattle.statement_round_trip.proofs.Tokens.{halves, one}
 use Rattle.statement_round_trip.proofs.Steps.{read_end, read_skip}
 
 -- a word at a place

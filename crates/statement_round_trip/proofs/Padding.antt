@@ -4,7 +4,7 @@ use Rattle.std.proofs.lemmas.Bool.Decides.{nat_tests}
 use Rattle.sql_base.specs.Rows.{padded}
 use Rattle.statement_printer.specs.Printing.{kept}
 use Rattle.statement_round_trip.specs.Rereading.{PaddedBack}
-use Rattle.statement_round_trip.proofs.Operands.{both_true}
+use Rattle.statement_round_trip.proofs.Tests.{both_true}
 
 abbrev is_last : ℕ → List ℕ → Bool
 is_last b bs = b == 32 && kept bs == 0

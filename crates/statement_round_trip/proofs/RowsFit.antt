@@ -15,7 +15,7 @@ use Rattle.statement_draft.specs.declared.draft.RowOf.{RowOf}
 use Rattle.statement_draft.specs.declared.draft.RowOf.TheVariants as row_of
 use Rattle.statement_draft.specs.declared.faults.Reason.TheVariants.{TextTooLong}
 use Rattle.statement_printer.specs.Printing.{kept, value_words}
-use Rattle.statement_round_trip.proofs.Operands.{both_true}
+use Rattle.statement_round_trip.proofs.Tests.{both_true}
 use Rattle.statement_round_trip.proofs.Padding.{padded_back}
 use Rattle.statement_round_trip.proofs.RowsRead.{AllFit, Fits, IsShort, PrintsAs}
 
@@ -28,7 +28,7 @@ pub prints_unpadded : PrintsAs value_words unpadded
 prints_unpadded (value.Int n) = refl
 prints_unpadded (value.Text text) = refl
 
-take_short : (n : ℕ) (text : List ℕ) → length (take n text) ≤ length text
+pub take_short : (n : ℕ) (text : List ℕ) → length (take n text) ≤ length text
 take_short zero text = omega arith
 take_short (suc n) [] = omega arith
 take_short (suc n) (b ∷ bs) = let h = take_short n bs in omega (arith, h)
@@ -42,7 +42,7 @@ no_longer n text h =
 fills_up : (n : ℕ) (text : List ℕ) → length text ≡ n → value.Text (padded n (take (kept text) text)) ≡ value.Text text
 fills_up n text h = ap (λ (k : ℕ). value.Text (padded k (take (kept text) text))) (sym h) ∙ ap (λ (t : List ℕ). value.Text t) (padded_back text)
 
-as_long : (n : ℕ) (text : List ℕ) → ((length text == n) && is_printable text) ≡ true → length text ≡ n
+pub as_long : (n : ℕ) (text : List ℕ) → ((length text == n) && is_printable text) ≡ true → length text ≡ n
 as_long n text h = let both = both_true (length text == n) (is_printable text) h in grind (arith, nat_tests, both.0)
 
 -- rows whose texts are filled up
@@ -61,11 +61,11 @@ insert_fills Int (value.Text text) h = absurd (cc (h))
 insert_fills (Char n) (value.Int m) h = absurd (cc (h))
 insert_fills (Char n) (value.Text text) h = let e = as_long n text h in (record { fault = no_longer n text e; fills = fills_up n text e }, tt)
 
-at_front : (front : List ColumnKind) (k : ColumnKind) (rest : List ColumnKind) → slice_get (front ++ k ∷ rest) (length front) ≡ Some k
+pub at_front : (front : List ColumnKind) (k : ColumnKind) (rest : List ColumnKind) → slice_get (front ++ k ∷ rest) (length front) ≡ Some k
 at_front [] k rest = refl
 at_front (x ∷ front) k rest = at_front front k rest
 
-one_longer : {A : Type 0} → (xs : List A) (x : A) → length (xs ++ x ∷ []) ≡ suc (length xs)
+pub one_longer : {A : Type 0} → (xs : List A) (x : A) → length (xs ++ x ∷ []) ≡ suc (length xs)
 one_longer [] x = refl
 one_longer (y ∷ xs) x = ap suc (one_longer xs x)
 

@@ -14,7 +14,8 @@ use Rattle.statement_draft.specs.declared.kinds.Op.TheVariants as op
 use Rattle.statement_draft.specs.declared.kinds.Operand.{Operand}
 use Rattle.sql_base.specs.Rows.{in_i64}
 use Rattle.statement_round_trip.specs.Rereading.{summary, summary_step, int_operand, has_leaves, leaves_step, SummariesTell}
-use Rattle.statement_round_trip.proofs.Operands.{Cases, expr_induction, both_true}
+use Rattle.statement_round_trip.proofs.ExpressionsRead.{Cases, expr_induction}
+use Rattle.statement_round_trip.proofs.Tests.{both_true}
 
 -- the operand holds the tree, and is as deep
 record Holds (x : Operand) (depth : ℕ) (e : Expr) : Type 0 where

@@ -8,8 +8,8 @@ use Rattle.std.specs.Str.{bytes_eq}
 use Rattle.sql_base.specs.Tables.{all_differ, IsTable}
 use Rattle.sql_base.specs.declared.tables.TableDef.{TableDef}
 use Rattle.statement_draft.specs.Names.{is_long, table_from, table_named}
-use Rattle.statement_round_trip.proofs.Naming.{either_false, not_long, not_true}
-use Rattle.statement_round_trip.proofs.Operands.{both_true}
+use Rattle.statement_round_trip.proofs.Naming.{not_long}
+use Rattle.statement_round_trip.proofs.Tests.{both_true, either_false, not_true}
 
 -- each table is declared so that it may be, and is found by its name
 pub record Declared (tables : List TableDef) (t : ℕ) (table : TableDef) : Type 0 where

@@ -18,7 +18,7 @@ use Rattle.statement_draft.specs.declared.kinds.Kind.{Kind}
 use Rattle.statement_draft.specs.declared.kinds.Kind.TheVariants as kind
 use Rattle.statement_draft.specs.declared.kinds.Operand.{Operand}
 use Rattle.statement_round_trip.specs.Rereading.{summary, summary_step, int_operand, TypedForReader}
-use Rattle.statement_round_trip.proofs.Operands.{Cases, expr_induction}
+use Rattle.statement_round_trip.proofs.ExpressionsRead.{Cases, expr_induction}
 
 -- where the first is a kind, the second means it
 abbrev Agree : Option base.Kind → Option Kind → Type 0

@@ -1,13 +1,10 @@
 -- UPDATE is read as it is printed.
-use Rattle.std.proofs.Common.{◌≡◌, ◌≤◌, ℕ, ◌+◌, min, List, [], ◌∷◌, ◌++◌, length, map, Bool, true, false, Option, Some, None, refl, sym, ap, subst, ◌∙◌, append_assoc, append-nil, arith}
+use Rattle.std.proofs.Common.{◌≡◌, ◌≤◌, ℕ, min, List, [], ◌∷◌, ◌++◌, length, map, Bool, true, false, Option, Some, None, refl, sym, ap, subst, ◌∙◌, append_assoc, append-nil, arith}
 use Rattle.std.proofs.lemmas.Bool.Decides.{nat_tests}
 use Rattle.std.proofs.lemmas.Option.{slice_get-map}
-use Rattle.std.proofs.lemmas.Grind.{flat_map-append}
-use Rattle.std.proofs.lemmas.List.{length-append}
 use Rattle.std.specs.Prelude.{flat_map, nat_eq, nat_lt, option_map, slice_get}
-use Rattle.std.specs.Int.{to_be_bytes, w16}
 use Rattle.std.specs.List.{AllByRecursion}
-use Rattle.sql_base.specs.Codes.{code_of, counted, sets_code}
+use Rattle.sql_base.specs.Codes.{code_of, sets_code}
 use Rattle.sql_base.specs.Rows.{kinds}
 use Rattle.sql_base.specs.Tables.{all_differ, AreSets, IsAssign, IsFilter, IsTable, MayChange}
 use Rattle.sql_base.specs.declared.expressions.Expr.{Expr}
@@ -34,6 +31,7 @@ use Rattle.statement_draft.specs.declared.draft.Scope.TheVariants as scope
 use Rattle.statement_draft.specs.declared.draft.StatementKind.TheVariants as statement_kinds
 use Rattle.statement_draft.specs.declared.faults.Reason.TheVariants.{OverLimit}
 use Rattle.statement_printer.specs.Printing.{access_words, key, set_words, sign, with_commas, words_on}
+use Rattle.statement_rules.proofs.StatementSteps.{code_counted, code_more}
 use Rattle.statement_round_trip.specs.Onward.{Reads}
 use Rattle.statement_round_trip.specs.Rereading.{EndsExpression}
 use Rattle.statement_round_trip.proofs.Apart.{apart_more, apart_none, differing, Apart}
@@ -69,27 +67,7 @@ behind_others : (columns : List Column) (sets : List Assign) (v : Word) (ws : Li
 behind_others columns [] v ws ends_it = record { first = v; rest = ws; is = refl; ends = ends_it }
 behind_others columns (set ∷ sets) v ws ends_it = record { first = sign signs.Comma; rest = _; is = refl; ends = expressions_end.comma }
 
--- ---- the code of the list
-
-abbrev piece : Assign → List ℕ
-piece set = set.column ∷ counted (code_of set.value)
-
-piece_length : (set : Assign) → length (piece set) ≡ 3 + length (code_of set.value)
-piece_length set = let inner = length-append (to_be_bytes w16 (length (code_of set.value))) (code_of set.value) in omega (arith, inner)
-
-none_more : (xs : List ℕ) → length (xs ++ []) ≡ length xs
-none_more xs = let both = length-append xs [] in omega (arith, both)
-
-code_more : (sets : List Assign) (set : Assign) → length (sets_code (sets ++ set ∷ [])) ≡ length (sets_code sets) + 3 + length (code_of set.value)
-code_more sets set =
-    let all : length (flat_map piece (sets ++ set ∷ [])) ≡ length (flat_map piece sets ++ flat_map piece (set ∷ [])) = ap length (flat_map-append piece sets (set ∷ [])) in
-    let both = length-append (flat_map piece sets) (flat_map piece (set ∷ [])) in
-    let one : length (flat_map piece (set ∷ [])) ≡ length (piece set) = none_more (piece set) in
-    let len = piece_length set in
-    omega (arith, all, both, one, len)
-
-code_counted : (m v n l total : ℕ) → m ≡ min 8193 n → v ≡ min 8193 l → total ≡ n + 3 + l → min 8193 (m + 3 + v) ≡ min 8193 total
-code_counted m v n l total h k e = grind (arith, h, k, e)
+-- ---- the list
 
 abbrev Counts : ℕ → List Assign → Type 0
 Counts code sets = code ≡ min 8193 (length (sets_code sets))
@@ -97,13 +75,11 @@ Counts code sets = code ≡ min 8193 (length (sets_code sets))
 few : (code n : ℕ) → code ≡ min 8193 n → n ≤ 8192 → nat_lt 8192 code ≡ false
 few code n h most = grind (arith, nat_tests, h, most)
 
--- ---- the list
-
 is_there : (column : ColumnKind) (o : Option Column) → option_map (λ (c : Column). c.kind) o ≡ Some column → (c : Column) × (o ≡ Some c)
 is_there column None h = absurd (cc (h))
 is_there column (Some c) h = (c, refl)
 
-column_of : (table : TableDef) (c : ℕ) (column : ColumnKind) → slice_get (kinds table) c ≡ Some column → (named : Column) × (slice_get table.columns c ≡ Some named)
+pub column_of : (table : TableDef) (c : ℕ) (column : ColumnKind) → slice_get (kinds table) c ≡ Some column → (named : Column) × (slice_get table.columns c ≡ Some named)
 column_of table c column h = is_there column (slice_get table.columns c) (sym (slice_get-map (λ (c : Column). c.kind) table.columns c) ∙ h)
 
 comma_steps : (s : List Symbol) (d : Draft) → StepsTo (part parts.MoreSets ∷ s) d (sign signs.Comma) (set_symbols (part parts.MoreSets ∷ s)) (λ place. d)

@@ -25,10 +25,12 @@ use Rattle.statement_draft.specs.declared.draft.StatementKind.TheVariants as kin
 use Rattle.statement_draft.specs.declared.faults.Reason.TheVariants.{OverLimit}
 use Rattle.statement_printer.specs.Printing.{end_key, key, sign, statement_words}
 use Rattle.statement_round_trip.specs.Onward.{Reads}
+use Rattle.statement_round_trip.specs.WholeScripts.{record_of}
 use Rattle.statement_round_trip.proofs.Beginning.{more_works_begin, work_begin, work_counted, Begins, FewStatements, FewWorks}
-use Rattle.statement_round_trip.proofs.FollowingRead.{at_most, emptied, few_statements, has_room, holding, next_of, one_read, record_of, records_of, Room}
+use Rattle.statement_round_trip.proofs.FollowingRead.{at_most, emptied, few_statements, has_room, holding, next_of, one_read, records_of, Room}
 use Rattle.statement_round_trip.proofs.LimitsRead.{semicolon_steps}
-use Rattle.statement_round_trip.proofs.Onward.{end_before, from, spelled, step, StepsTo}
+use Rattle.statement_round_trip.proofs.AtTheEnd.{end_then}
+use Rattle.statement_round_trip.proofs.Onward.{from, spelled, step, StepsTo}
 use Rattle.statement_round_trip.proofs.StatementsRead.{statement_reads}
 use Rattle.statement_round_trip.proofs.TableNames.{AreDeclared}
 use Rattle.statement_round_trip.proofs.WorksRead.{ending, ending_as, kept_work, rest_of_work_reads, work_is, work_steps}
@@ -69,13 +71,13 @@ next_opens d few = record {
   finish = λ commit s first end ts at. next_end commit s d first end ts at ∙ ap (λ (b : Bool). read_from (ending s) (noted_end commit d first b) ts at) few;
 }
 
-abbrev end_words : Bool → Word → List Word → List Word
-end_words commit w ws = key (end_key commit) ∷ key keys.Work ∷ sign signs.Semicolon ∷ w ∷ ws
+abbrev end_words : Bool → List Word → List Word
+end_words commit ws = key (end_key commit) ∷ key keys.Work ∷ sign signs.Semicolon ∷ ws
 
 -- where a work has been read
-abbrev pub WorkRead : List Statement → Bool → Draft → List Symbol → Word → List Word → (Draft → Type 0) → Type 0
-WorkRead sts commit d s w ws Last = (names : Scope) (e : NewExpression) (row : NewRow) (new : NewStatement)
-    → Reads (part parts.MoreWorks ∷ s) (kept_work commit (holding names e row new (opened d) sts (d.records + records_of sts) (d.statements + length sts))) (w ∷ ws) Last
+abbrev pub WorkRead : List Statement → Bool → Draft → List Symbol → List Word → (Draft → Type 0) → Type 0
+WorkRead sts commit d s ws Last = (names : Scope) (e : NewExpression) (row : NewRow) (new : NewStatement)
+    → Reads (part parts.MoreWorks ∷ s) (kept_work commit (holding names e row new (opened d) sts (d.records + records_of sts) (d.statements + length sts))) ws Last
 
 none_more : (n : ℕ) → n ≡ n + 0
 none_more n = omega arith
@@ -92,31 +94,31 @@ plus a b c = omega arith
 beside : (a b : ℕ) → a + 1 + b ≡ a + suc b
 beside a b = omega arith
 
--- a work, and the word behind it
+-- a work, and what is behind it
 pub work_reads : (p : Part) (d : Draft) → Opens p d → (sts : List Statement) (commit : Bool) → AreDeclared d.tables → AllByRecursion (IsStatement d.tables) sts
-    → Room sts d.records d.statements d → (s : List Symbol) (w : Word) (ws : List Word) (Last : Draft → Type 0) → WorkRead sts commit d s w ws Last
-    → Reads (part p ∷ s) d (flat_map (statement_words d.tables) sts ++ end_words commit w ws) Last
-work_reads p d opens [] commit declared all room s w ws Last more =
+    → Room sts d.records d.statements d → (s : List Symbol) (ws : List Word) (Last : Draft → Type 0) → WorkRead sts commit d s ws Last
+    → Reads (part p ∷ s) d (flat_map (statement_words d.tables) sts ++ end_words commit ws) Last
+work_reads p d opens [] commit declared all room s ws Last more =
     let d1 = ending_as commit (opened d) in
     step _ d _ _ Last _ _ (opens.finish commit s) (λ a.
     step _ d1 _ _ Last _ _ (work_steps _ d1) (λ b.
     step _ d1 _ _ Last _ _ (semicolon_steps _ d1) (λ i.
-    end_before ends.Work _ d1 w ws Last
-    (from _ _ _ (w ∷ ws) Last
+    end_then ends.Work _ d1 ws Last
+    (from _ _ _ ws Last
     (work_is commit (opened d) ∙ ap (λ (n : ℕ). alone commit d n d.statements) (none_more d.records) ∙ ap (alone commit d (d.records + 0)) (none_more d.statements))
     (more d.scope d.expression d.row d.statement)))))
-work_reads p d opens (st ∷ sts) commit declared all room s w ws Last more =
-    let n = next_of d.tables sts (key (end_key commit)) (key keys.Work ∷ sign signs.Semicolon ∷ w ∷ ws) in
+work_reads p d opens (st ∷ sts) commit declared all room s ws Last more =
+    let n = next_of d.tables sts (key (end_key commit)) (key keys.Work ∷ sign signs.Semicolon ∷ ws) in
     let few : FewStatements d = few_statements d.statements (length sts) d.limits.restart room.statements in
     let first : d.records + record_of st ≤ 4000 = omega (arith, room.inserts) in
     spelled _ d _ _ Last
-    (append_assoc (statement_words d.tables st) (flat_map (statement_words d.tables) sts) (end_words commit w ws) ∙ ap (λ (l : List Word). statement_words d.tables st ++ l) n.is)
+    (append_assoc (statement_words d.tables st) (flat_map (statement_words d.tables) sts) (end_words commit ws) ∙ ap (λ (l : List Word). statement_words d.tables st ++ l) n.is)
     (statement_reads p d (work_counted d) (opens.statement few) declared st all.0 (has_room st d.records (work_counted d) refl first) s n.first n.rest Last (λ names e row.
     spelled _ _ _ _ Last (sym n.is)
     (from _ _ _ _ Last (one_read st names d.scope e d.expression row d.row d.statement (opened d) [] d.records d.statements first (at_most d.statements (length sts) d.limits.restart room.statements))
     (rest_of_work_reads sts (st ∷ []) commit names e (emptied row) (no_statement kinds.Lock 0) (opened d) (d.records + record_of st) (d.statements + 1) declared all.1
-    (record { statements = up d.statements (length sts) (times d) room.statements; inserts = omega (arith, room.inserts) }) s w ws Last (λ names1 e1 row1 new1.
-    from _ _ _ (w ∷ ws) Last
+    (record { statements = up d.statements (length sts) (times d) room.statements; inserts = omega (arith, room.inserts) }) s ws Last (λ names1 e1 row1 new1.
+    from _ _ _ ws Last
     (ap (λ (k : ℕ). kept_work commit (holding names1 e1 row1 new1 (opened d) (st ∷ sts) k (d.statements + 1 + length sts))) (plus d.records (record_of st) (records_of sts))
     ∙ ap (λ (k : ℕ). kept_work commit (holding names1 e1 row1 new1 (opened d) (st ∷ sts) (d.records + (record_of st + records_of sts)) k)) (beside d.statements (length sts)))
     (more names1 e1 row1 new1))))))

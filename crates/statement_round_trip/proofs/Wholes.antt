@@ -20,7 +20,9 @@ use Rattle.statement_printer.specs.Printing.{Printed, printed_expr, print_step, 
 use Rattle.statement_round_trip.specs.Rereading.{whole_stack, WholesReadBack}
 use Rattle.statement_printer.proofs.Joining.{words_of_pos}
 use Rattle.statement_round_trip.proofs.Steps.{read_part}
-use Rattle.statement_round_trip.proofs.Operands.{Cases, expr_induction, expressions_read_back, one, scope_kept}
+use Rattle.statement_round_trip.proofs.ExpressionsRead.{Cases, expr_induction, expressions_read_back}
+use Rattle.statement_round_trip.proofs.Operands.{scope_kept}
+use Rattle.statement_round_trip.proofs.Tokens.{one}
 
 -- the first word begins an expression
 record Begins (words : List Word) : Type 0 where

@@ -23,7 +23,8 @@ use Rattle.statement_printer.specs.Printing.{end_key, key, sign, statement_words
 use Rattle.statement_round_trip.specs.Onward.{Reads}
 use Rattle.statement_round_trip.proofs.FollowingRead.{following_read, holding, records_of, Room}
 use Rattle.statement_round_trip.proofs.LimitsRead.{semicolon_steps}
-use Rattle.statement_round_trip.proofs.Onward.{end_before, from, step, StepsTo}
+use Rattle.statement_round_trip.proofs.AtTheEnd.{end_then}
+use Rattle.statement_round_trip.proofs.Onward.{from, step, StepsTo}
 use Rattle.statement_round_trip.proofs.TableNames.{AreDeclared}
 
 -- behind COMMIT or ROLLBACK
@@ -50,26 +51,26 @@ pub work_is : (commit : Bool) (d : Draft) → ended ends.Work (ending_as commit 
 unfolding ended
 work_is commit d = refl
 
--- COMMIT WORK ; and the word behind it
-pub end_reads : (commit : Bool) (s : List Symbol) (d : Draft) (w : Word) (ws : List Word) (Last : Draft → Type 0)
-    → Reads (part parts.MoreWorks ∷ s) (kept_work commit d) (w ∷ ws) Last
-    → Reads (part parts.MoreStatements ∷ s) d (key (end_key commit) ∷ key keys.Work ∷ sign signs.Semicolon ∷ w ∷ ws) Last
-end_reads commit s d w ws Last more =
+-- COMMIT WORK ; and what is behind it
+pub end_reads : (commit : Bool) (s : List Symbol) (d : Draft) (ws : List Word) (Last : Draft → Type 0)
+    → Reads (part parts.MoreWorks ∷ s) (kept_work commit d) ws Last
+    → Reads (part parts.MoreStatements ∷ s) d (key (end_key commit) ∷ key keys.Work ∷ sign signs.Semicolon ∷ ws) Last
+end_reads commit s d ws Last more =
     let d1 = ending_as commit d in
     step _ d _ _ Last _ _ (end_steps commit s d) (λ a.
     step _ d1 _ _ Last _ _ (work_steps _ d1) (λ b.
     step _ d1 _ _ Last _ _ (semicolon_steps _ d1) (λ i.
-    end_before ends.Work _ d1 w ws Last
-    (from _ _ _ (w ∷ ws) Last (work_is commit d) more))))
+    end_then ends.Work _ d1 ws Last
+    (from _ _ _ ws Last (work_is commit d) more))))
 
--- the statements that are left of a work, its end, and the word behind it
+-- the statements that are left of a work, its end, and what is behind it
 pub rest_of_work_reads : (sts before : List Statement) (commit : Bool) (names : Scope) (e : NewExpression) (row : NewRow) (new : NewStatement) (d : Draft) (records count : ℕ)
     → AreDeclared d.tables → AllByRecursion (IsStatement d.tables) sts → Room sts records count d
-    → (s : List Symbol) (w : Word) (ws : List Word) (Last : Draft → Type 0)
+    → (s : List Symbol) (ws : List Word) (Last : Draft → Type 0)
     → ((names : Scope) (e : NewExpression) (row : NewRow) (new : NewStatement)
-    → Reads (part parts.MoreWorks ∷ s) (kept_work commit (holding names e row new d (d.work ++ (before ++ sts)) (records + records_of sts) (count + length sts))) (w ∷ ws) Last)
+    → Reads (part parts.MoreWorks ∷ s) (kept_work commit (holding names e row new d (d.work ++ (before ++ sts)) (records + records_of sts) (count + length sts))) ws Last)
     → Reads (part parts.MoreStatements ∷ s) (holding names e row new d (d.work ++ before) records count)
-    (flat_map (statement_words d.tables) sts ++ key (end_key commit) ∷ key keys.Work ∷ sign signs.Semicolon ∷ w ∷ ws) Last
-rest_of_work_reads sts before commit names e row new d records count declared all room s w ws Last more =
+    (flat_map (statement_words d.tables) sts ++ key (end_key commit) ∷ key keys.Work ∷ sign signs.Semicolon ∷ ws) Last
+rest_of_work_reads sts before commit names e row new d records count declared all room s ws Last more =
     following_read sts before names e row new d records count declared all room s (key (end_key commit)) _ Last (λ names1 e1 row1 new1.
-    end_reads commit s _ w ws Last (more names1 e1 row1 new1))
+    end_reads commit s _ ws Last (more names1 e1 row1 new1))

@@ -1,3 +1,4 @@
 pub mod Onward
 pub mod Rereading
 pub mod Respelling
+pub mod WholeScripts

@@ -1,5 +1,5 @@
 pub mod AllParts
-mod Demands
+pub mod Demands
 mod Differing
 mod ExpressionParts
 mod ExpressionSteps
@@ -10,7 +10,7 @@ mod PartContracts
 pub mod RowSteps
 mod SessionParts
 mod SessionSteps
-mod StatementSteps
+pub mod StatementSteps
 mod States
 pub mod Stays
 mod TableParts

@@ -271,7 +271,7 @@ piece set = set.column ∷ counted (code_of set.value)
 no_more : (xs : List ℕ) → length (xs ++ []) ≡ length xs
 no_more xs = let both = length-append xs [] in omega (arith, both)
 
-code_more : (sets : List Assign) (set : Assign) → length (sets_code (sets ++ set ∷ [])) ≡ length (sets_code sets) + 3 + length (code_of set.value)
+pub code_more : (sets : List Assign) (set : Assign) → length (sets_code (sets ++ set ∷ [])) ≡ length (sets_code sets) + 3 + length (code_of set.value)
 code_more sets set =
     let all : length (flat_map piece (sets ++ set ∷ [])) ≡ length (flat_map piece sets ++ flat_map piece (set ∷ [])) = ap length (flat_map-append piece sets (set ∷ [])) in
     let both = length-append (flat_map piece sets) (flat_map piece (set ∷ [])) in
@@ -279,7 +279,7 @@ code_more sets set =
     let len = piece_length set in
     omega (arith, all, both, one, len)
 
-code_counted : (m v n l : ℕ) (total : ℕ) → m ≡ min 8193 n → v ≡ min 8193 l → total ≡ n + 3 + l → min 8193 (m + 3 + v) ≡ min 8193 total
+pub code_counted : (m v n l : ℕ) (total : ℕ) → m ≡ min 8193 n → v ≡ min 8193 l → total ≡ n + 3 + l → min 8193 (m + 3 + v) ≡ min 8193 total
 code_counted m v n l total h k e = grind (arith, h, k, e)
 
 -- the assignments and their code, and nothing else but faults and the value

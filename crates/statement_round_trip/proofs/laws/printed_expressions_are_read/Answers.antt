@@ -1,4 +1,4 @@
-use Rattle.statement_round_trip.proofs.Operands.{expressions_read_back}
+use Rattle.statement_round_trip.proofs.ExpressionsRead.{expressions_read_back}
 use Rattle.statement_round_trip.proofs.Summaries.{summaries_tell}
 use Rattle.statement_round_trip.proofs.Wholes.{wholes_read_back}
 use Rattle.statement_round_trip.proofs.Naming.{columns_named}
