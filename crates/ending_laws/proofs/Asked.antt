@@ -90,14 +90,14 @@ module _ (S : ℕ → Ask → Type 0) where
     ending-so r a (Some abort) commit h = ends-so a.ordinal EndUndo (touched r a) a.ending undoes h.0
     ending-so r a None false h = ends-so a.ordinal EndUndo (touched r a) a.ending undoes h.0
     ending-so r a None true (inl h) =
-        let front = prepares-so a.ordinal (touched r a) h.2 h.0 h.5 in
-        let back = ends-so a.ordinal (EndCommit h.1) (touched r a) h.3 (λ part. commits part h.1) h.6 in
-        subst (AllByRecursion IsSo) (sym h.4) (all_joined IsSo h.2 _ front (tt, back))
+        let front = prepares-so a.ordinal (touched r a) h.prepares h.floors h.prepared in
+        let back = ends-so a.ordinal (EndCommit h.stamp) (touched r a) h.ends (λ part. commits part h.stamp) h.ended in
+        subst (AllByRecursion IsSo) (sym h.ending_is) (all_joined IsSo h.prepares _ front (tt, back))
     ending-so r a None true (inr h) =
-        let front = prepares-so a.ordinal h.0 h.4 h.3 h.9 in
-        let lost = asked-one h.1 (record { ordinal = a.ordinal; ask = Prepare }) PathFailed h.5 (prepares h.1) h.10 in
-        let back = ends-so a.ordinal EndUndo (touched r a) h.6 undoes h.11 in
-        subst (AllByRecursion IsSo) (sym h.8) (all_joined IsSo h.4 _ front (lost, back))
+        let front = prepares-so a.ordinal h.front h.prepares h.floors h.prepared in
+        let lost = asked-one h.part (record { ordinal = a.ordinal; ask = Prepare }) PathFailed h.lost (prepares h.part) h.lost_is in
+        let back = ends-so a.ordinal EndUndo (touched r a) h.ends undoes h.undone in
+        subst (AllByRecursion IsSo) (sym h.ending_is) (all_joined IsSo h.prepares _ front (lost, back))
 
     attempts-so : (r : Asker) (attempts : List Attempt) → AllByRecursion (λ a. AllByRecursion (PlanIsSo r) a.work.statements) attempts → AllByRecursion (IsOwn r) attempts
         → AllByRecursion IsSo (flat_map entries_of attempts)

@@ -17,7 +17,7 @@ pub struct LockTable {
 
 impl Model for LockTable {
     ghost use Rattle.sql_base.specs.Locks.{InTableOrder};
-    ghost use Rattle.lock_tables.specs.LockTables.{Table, table_of};
+    ghost use Rattle.lock_tables.specs.LockTables.{Table, lock_table_of};
     ghost use Rattle.sql_base.specs.contracts.lock_names.Lock as lock;
     ghost use Rattle.std.specs.Coded.{codes};
 
@@ -25,7 +25,7 @@ impl Model for LockTable {
 
     ghost coded = { Prim.hlevel (codes, lock.the_row.coded) };
 
-    ghost view = { λ t. table_of t.locks };
+    ghost view = { λ t. lock_table_of t.locks };
 
     ghost invariant = { λ t. InTableOrder t.locks.items };
 }

@@ -93,13 +93,13 @@ prepares-numbered ordinal (part ∷ parts) (e ∷ es) (floor ∷ floors) h = (as
 ending-numbered : (r : Asker) (a : Attempt) (end : Option Abort) (commit : Bool) → IsEnding r a end commit → AllByRecursion (IsNumbered a.ordinal) a.ending
 ending-numbered r a (Some abort) commit h = ends-numbered a.ordinal ask.EndUndo (touched r a) a.ending h.0
 ending-numbered r a None false h = ends-numbered a.ordinal ask.EndUndo (touched r a) a.ending h.0
-ending-numbered r a None true (inl (floors, stamp, prepares, ends, ending, are_prepares, are_ends, outcome)) =
-    subst (AllByRecursion (IsNumbered a.ordinal)) (sym ending)
-    (all_on (IsNumbered a.ordinal) prepares _ (prepares-numbered a.ordinal (touched r a) prepares floors are_prepares) (refl, ends-numbered a.ordinal (ask.EndCommit stamp) (touched r a) ends are_ends))
-ending-numbered r a None true (inr (front, part, back, floors, prepares, lost, ends, touches, ending, are_prepares, is_lost, are_ends, outcome)) =
-    subst (AllByRecursion (IsNumbered a.ordinal)) (sym ending)
-    (all_on (IsNumbered a.ordinal) prepares (lost ∷ ends) (prepares-numbered a.ordinal front prepares floors are_prepares)
-    (asked-numbered part a.ordinal ask.Prepare PathFailed lost is_lost, ends-numbered a.ordinal ask.EndUndo (touched r a) ends are_ends))
+ending-numbered r a None true (inl c) =
+    subst (AllByRecursion (IsNumbered a.ordinal)) (sym c.ending_is)
+    (all_on (IsNumbered a.ordinal) c.prepares _ (prepares-numbered a.ordinal (touched r a) c.prepares c.floors c.prepared) (refl, ends-numbered a.ordinal (ask.EndCommit c.stamp) (touched r a) c.ends c.ended))
+ending-numbered r a None true (inr l) =
+    subst (AllByRecursion (IsNumbered a.ordinal)) (sym l.ending_is)
+    (all_on (IsNumbered a.ordinal) l.prepares (l.lost ∷ l.ends) (prepares-numbered a.ordinal l.front l.prepares l.floors l.prepared)
+    (asked-numbered l.part a.ordinal ask.Prepare PathFailed l.lost l.lost_is, ends-numbered a.ordinal ask.EndUndo (touched r a) l.ends l.undone))
 
 attempt-numbered : (r : Asker) (a : Attempt) → IsOwn r a → AllByRecursion (IsNumbered a.ordinal) (entries_of a)
 attempt-numbered r a is =

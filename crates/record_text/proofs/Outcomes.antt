@@ -188,28 +188,28 @@ module _ (r : Asker) (few : parts_of r.tables ≤ most_parts) (a : Attempt) (wor
   by_ending : (end : Option Abort) (commit : Bool) → first_failure (joined a.parts) (range_with_len 0 most_parts) ≡ end → IsEnding r a end commit → outcome_of (entries_of a) ≡ a.outcome
   by_ending (Some abort) commit told h = undone (Some abort) told h.0 a.outcome (sym h.1)
   by_ending None false told h = undone None told h.0 a.outcome (sym h.1)
-  by_ending None true told (inl (floors, stamp, prepares, ends, ending, are_prepares, are_ends, outcome)) =
+  by_ending None true told (inl c) =
       let draws : drawn (joined a.parts ++ a.ending) ≡ Some stamp =
-      drawn-append (joined a.parts) a.ending (work-draws a.ordinal (joined a.parts) work) ∙ ap drawn ending ∙ drawn-append prepares _ (prepares-draw a.ordinal (touched r a) prepares floors are_prepares) in
-      ap (λ o. outcome_by o (first_failure (joined a.parts ++ a.ending) (range_with_len 0 most_parts))) draws ∙ sym outcome
-  by_ending None true told (inr (front, part, back, floors, prepares, lost, ends, touches, ending, are_prepares, is_lost, are_ends, outcome)) =
-      let nothing : AllByRecursion DrawsNone (prepares ++ lost ∷ ends) = draws_all prepares (lost ∷ ends) (prepares-draw a.ordinal front prepares floors are_prepares)
-      (asked-draws part (record { ordinal = a.ordinal; ask = ask.Prepare }) PathFailed lost is_lost, ends-draw a.ordinal ask.EndUndo (touched r a) ends are_ends) in
+      drawn-append (joined a.parts) a.ending (work-draws a.ordinal (joined a.parts) work) ∙ ap drawn c.ending_is ∙ drawn-append c.prepares _ (prepares-draw a.ordinal (touched r a) c.prepares c.floors c.prepared) in
+      ap (λ o. outcome_by o (first_failure (joined a.parts ++ a.ending) (range_with_len 0 most_parts))) draws ∙ sym c.outcome_is
+  by_ending None true told (inr l) =
+      let nothing : AllByRecursion DrawsNone (l.prepares ++ l.lost ∷ l.ends) = draws_all l.prepares (l.lost ∷ l.ends) (prepares-draw a.ordinal l.front l.prepares l.floors l.prepared)
+      (asked-draws l.part (record { ordinal = a.ordinal; ask = ask.Prepare }) PathFailed l.lost l.lost_is, ends-draw a.ordinal ask.EndUndo (touched r a) l.ends l.undone) in
       by_parts (joined a.parts ++ a.ending) (Some PathLost) a.outcome
-      (drawn-append (joined a.parts) a.ending (work-draws a.ordinal (joined a.parts) work) ∙ ap drawn ending ∙ drawn-none (prepares ++ lost ∷ ends) nothing)
-      (whole-append (joined a.parts) a.ending told ∙ ap (λ (x : List LogEntry). first_failure x (range_with_len 0 most_parts)) ending
-      ∙ one-failed (prepares ++ lost ∷ ends) PathLost part most_parts 0 each (omega arith) (omega (arith, range-has _ (parts_of r.tables) 0 part front back touches, few)))
-      (sym outcome)
+      (drawn-append (joined a.parts) a.ending (work-draws a.ordinal (joined a.parts) work) ∙ ap drawn l.ending_is ∙ drawn-none (l.prepares ++ l.lost ∷ l.ends) nothing)
+      (whole-append (joined a.parts) a.ending told ∙ ap (λ (x : List LogEntry). first_failure x (range_with_len 0 most_parts)) l.ending_is
+      ∙ one-failed (l.prepares ++ l.lost ∷ l.ends) PathLost l.part most_parts 0 each (omega arith) (omega (arith, range-has _ (parts_of r.tables) 0 l.part l.front l.back l.touched_is, few)))
+      (sym l.outcome_is)
     where
       draws_all : (xs ys : List LogEntry) → AllByRecursion DrawsNone xs → AllByRecursion DrawsNone ys → AllByRecursion DrawsNone (xs ++ ys)
       draws_all [] ys h k = k
       draws_all (x ∷ xs) ys h k = (h.0, draws_all xs ys h.1 k)
 
-      each : (j : ℕ) → last_failure j None (prepares ++ lost ∷ ends) ≡ cond (part == j) (Some PathLost) None
+      each : (j : ℕ) → last_failure j None (l.prepares ++ l.lost ∷ l.ends) ≡ cond (part == j) (Some PathLost) None
       each j =
-          last-append j None prepares (lost ∷ ends) ∙ ap (λ x. last_failure j x (lost ∷ ends)) (prepares-last a.ordinal front prepares floors j are_prepares)
-          ∙ ap (λ x. last_failure j x ends) (asked-any j None part (record { ordinal = a.ordinal; ask = ask.Prepare }) PathFailed lost refl is_lost)
-          ∙ ends-last a.ordinal ask.EndUndo (touched r a) ends j (cond (part == j) (Some PathLost) None) refl are_ends
+          last-append j None l.prepares (l.lost ∷ l.ends) ∙ ap (λ x. last_failure j x (l.lost ∷ l.ends)) (prepares-last a.ordinal l.front l.prepares l.floors j l.prepared)
+          ∙ ap (λ x. last_failure j x l.ends) (asked-any j None l.part (record { ordinal = a.ordinal; ask = ask.Prepare }) PathFailed l.lost refl l.lost_is)
+          ∙ ends-last a.ordinal ask.EndUndo (touched r a) l.ends j (cond (part == j) (Some PathLost) None) refl l.undone
 
 -- the outcome of an attempt
 pub outcome-read : (r : Asker) (a : Attempt) → parts_of r.tables ≤ most_parts → IsOwn r a → outcome_of (entries_of a) ≡ a.outcome

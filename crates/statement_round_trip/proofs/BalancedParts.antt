@@ -207,37 +207,39 @@ part_same parts.OrRest w at d h = refl
 abbrev AreInner : List Symbol → Type 0
 AreInner s = list_all is_inner s ≡ true
 
-some_inner : (x more : List Symbol) → AreInner x → Some x ≡ Some more → AreInner more
-some_inner x more h e = let same : x ≡ more = cc in subst AreInner same h
+-- what follows a word that begins a part, where tests tell it
+pub if_some : (b : Bool) (x : List Symbol) (rest : Option (List Symbol)) (more : List Symbol) (P : List Symbol → Type 0) → P x → (rest ≡ Some more → P more)
+    → (if b then Some x else rest) ≡ Some more → P more
+if_some true x rest more P h later e = let same : x ≡ more = cc in subst P same h
+if_some false x rest more P h later e = later e
+
+pub none_more : (more : List Symbol) (P : List Symbol → Type 0) → None ≡ Some more → P more
+none_more more P e = absurd (cc (e))
 
 inner_if : (b : Bool) (x : List Symbol) (rest : Option (List Symbol)) (more : List Symbol) → AreInner x → (rest ≡ Some more → AreInner more)
     → (if b then Some x else rest) ≡ Some more → AreInner more
-inner_if true x rest more h later e = some_inner x more h e
-inner_if false x rest more h later e = later e
-
-none_more : (more : List Symbol) → None ≡ Some more → AreInner more
-none_more more e = absurd (cc (e))
+inner_if b x rest more h later e = if_some b x rest more AreInner h later e
 
 condition_inner : (w : Word) (more : List Symbol) → grammar.condition_behind w ≡ Some more → AreInner more
 condition_inner w more e =
     inner_if (is_key w keys.Not) _ _ more refl
-    (inner_if _ _ _ more refl (inner_if (is_sign w signs.Minus) _ _ more refl (inner_if (is_sign w signs.Open) _ None more refl (none_more more)))) e
+    (inner_if _ _ _ more refl (inner_if (is_sign w signs.Minus) _ _ more refl (inner_if (is_sign w signs.Open) _ None more refl (none_more more AreInner)))) e
 
 inner_behind : (p : Part) (w : Word) (more : List Symbol) → is_inner_part p ≡ true → behind p w ≡ Some more → AreInner more
 unfolding behind
 inner_behind (parts.Limit l) w more h e = absurd (cc (h))
-inner_behind parts.Table w more h e = inner_if (is_key w keys.Table) _ None more refl (none_more more) e
-inner_behind parts.MoreTables w more h e = inner_if (is_key w keys.Table) _ None more refl (none_more more) e
-inner_behind parts.ColumnKind w more h e = inner_if (is_key w keys.Int) [] _ more refl (inner_if (is_key w keys.Char) _ None more refl (none_more more)) e
-inner_behind parts.ColumnOrKey w more h e = inner_if (is_name w) _ _ more refl (inner_if (is_key w keys.Primary) _ None more refl (none_more more)) e
-inner_behind parts.MoreKeyColumns w more h e = inner_if (is_sign w signs.Comma) _ None more refl (none_more more) e
-inner_behind parts.MoreChecks w more h e = inner_if (is_sign w signs.Comma) _ None more refl (none_more more) e
-inner_behind parts.Check w more h e = inner_if (is_key w keys.Check) _ None more refl (none_more more) e
-inner_behind parts.FirstKeys w more h e = inner_if (is_key w keys.First) _ None more refl (none_more more) e
-inner_behind parts.MoreFirstKeys w more h e = inner_if (is_sign w signs.Comma) _ None more refl (none_more more) e
-inner_behind parts.Row w more h e = inner_if (is_sign w signs.Open) _ None more refl (none_more more) e
-inner_behind parts.Literal w more h e = inner_if (is_literal w) [] _ more refl (inner_if (is_sign w signs.Minus) _ None more refl (none_more more)) e
-inner_behind parts.MoreLiterals w more h e = inner_if (is_sign w signs.Comma) _ None more refl (none_more more) e
+inner_behind parts.Table w more h e = inner_if (is_key w keys.Table) _ None more refl (none_more more AreInner) e
+inner_behind parts.MoreTables w more h e = inner_if (is_key w keys.Table) _ None more refl (none_more more AreInner) e
+inner_behind parts.ColumnKind w more h e = inner_if (is_key w keys.Int) [] _ more refl (inner_if (is_key w keys.Char) _ None more refl (none_more more AreInner)) e
+inner_behind parts.ColumnOrKey w more h e = inner_if (is_name w) _ _ more refl (inner_if (is_key w keys.Primary) _ None more refl (none_more more AreInner)) e
+inner_behind parts.MoreKeyColumns w more h e = inner_if (is_sign w signs.Comma) _ None more refl (none_more more AreInner) e
+inner_behind parts.MoreChecks w more h e = inner_if (is_sign w signs.Comma) _ None more refl (none_more more AreInner) e
+inner_behind parts.Check w more h e = inner_if (is_key w keys.Check) _ None more refl (none_more more AreInner) e
+inner_behind parts.FirstKeys w more h e = inner_if (is_key w keys.First) _ None more refl (none_more more AreInner) e
+inner_behind parts.MoreFirstKeys w more h e = inner_if (is_sign w signs.Comma) _ None more refl (none_more more AreInner) e
+inner_behind parts.Row w more h e = inner_if (is_sign w signs.Open) _ None more refl (none_more more AreInner) e
+inner_behind parts.Literal w more h e = inner_if (is_literal w) [] _ more refl (inner_if (is_sign w signs.Minus) _ None more refl (none_more more AreInner)) e
+inner_behind parts.MoreLiterals w more h e = inner_if (is_sign w signs.Comma) _ None more refl (none_more more AreInner) e
 inner_behind parts.Loads w more h e = absurd (cc (h))
 inner_behind parts.MoreLoadRows w more h e = absurd (cc (h))
 inner_behind parts.Session w more h e = absurd (cc (h))
@@ -245,23 +247,23 @@ inner_behind parts.MoreSessions w more h e = absurd (cc (h))
 inner_behind parts.Work w more h e = absurd (cc (h))
 inner_behind parts.MoreStatements w more h e = absurd (cc (h))
 inner_behind parts.MoreWorks w more h e = absurd (cc (h))
-inner_behind parts.Selected w more h e = inner_if (is_sign w signs.Times) [] _ more refl (inner_if (is_name w) _ None more refl (none_more more)) e
-inner_behind parts.MoreSelected w more h e = inner_if (is_sign w signs.Comma) _ None more refl (none_more more) e
-inner_behind parts.Where w more h e = inner_if (is_key w keys.Where) _ None more refl (none_more more) e
-inner_behind parts.Sets w more h e = inner_if (is_key w keys.Set) _ None more refl (none_more more) e
-inner_behind parts.MoreSets w more h e = inner_if (is_sign w signs.Comma) _ None more refl (none_more more) e
-inner_behind parts.ReadAccess w more h e = inner_if (is_key w keys.Browse) [] _ more refl (inner_if _ [] None more refl (none_more more)) e
-inner_behind parts.ChangeAccess w more h e = inner_if _ [] None more refl (none_more more) e
-inner_behind parts.LockMode w more h e = inner_if _ [] None more refl (none_more more) e
+inner_behind parts.Selected w more h e = inner_if (is_sign w signs.Times) [] _ more refl (inner_if (is_name w) _ None more refl (none_more more AreInner)) e
+inner_behind parts.MoreSelected w more h e = inner_if (is_sign w signs.Comma) _ None more refl (none_more more AreInner) e
+inner_behind parts.Where w more h e = inner_if (is_key w keys.Where) _ None more refl (none_more more AreInner) e
+inner_behind parts.Sets w more h e = inner_if (is_key w keys.Set) _ None more refl (none_more more AreInner) e
+inner_behind parts.MoreSets w more h e = inner_if (is_sign w signs.Comma) _ None more refl (none_more more AreInner) e
+inner_behind parts.ReadAccess w more h e = inner_if (is_key w keys.Browse) [] _ more refl (inner_if _ [] None more refl (none_more more AreInner)) e
+inner_behind parts.ChangeAccess w more h e = inner_if _ [] None more refl (none_more more AreInner) e
+inner_behind parts.LockMode w more h e = inner_if _ [] None more refl (none_more more AreInner) e
 inner_behind parts.Expression w more h e = condition_inner w more e
 inner_behind parts.Condition w more h e = condition_inner w more e
 inner_behind parts.Operand w more h e =
-    inner_if _ [] _ more refl (inner_if (is_sign w signs.Minus) _ _ more refl (inner_if (is_sign w signs.Open) _ None more refl (none_more more))) e
-inner_behind parts.ProductRest w more h e = inner_if _ _ None more refl (none_more more) e
-inner_behind parts.SumRest w more h e = inner_if _ _ None more refl (none_more more) e
-inner_behind parts.CompareRest w more h e = inner_if (is_comparison w) _ None more refl (none_more more) e
-inner_behind parts.AndRest w more h e = inner_if (is_key w keys.And) _ None more refl (none_more more) e
-inner_behind parts.OrRest w more h e = inner_if (is_key w keys.Or) _ None more refl (none_more more) e
+    inner_if _ [] _ more refl (inner_if (is_sign w signs.Minus) _ _ more refl (inner_if (is_sign w signs.Open) _ None more refl (none_more more AreInner))) e
+inner_behind parts.ProductRest w more h e = inner_if _ _ None more refl (none_more more AreInner) e
+inner_behind parts.SumRest w more h e = inner_if _ _ None more refl (none_more more AreInner) e
+inner_behind parts.CompareRest w more h e = inner_if (is_comparison w) _ None more refl (none_more more AreInner) e
+inner_behind parts.AndRest w more h e = inner_if (is_key w keys.And) _ None more refl (none_more more AreInner) e
+inner_behind parts.OrRest w more h e = inner_if (is_key w keys.Or) _ None more refl (none_more more AreInner) e
 
 inner_demands : (s : List Symbol) → AreInner s → (d e : Draft) → Same d e → demands Pre Post s (Same d) e
 inner_demands [] all d e h = h
@@ -286,13 +288,6 @@ inner_begins p inner w at more d h =
 
 -- ---- limits, LOADs, sessions, works and statements
 
-pub by_if : (b : Bool) (x more : List Symbol) (P : List Symbol → Type 0) → (if b then Some x else None) ≡ Some more → P x → P more
-by_if true x more P h p = let same : x ≡ more = cc in subst P same p
-by_if false x more P h p = absurd (cc (h))
-
-pub by_some : (x more : List Symbol) (P : List Symbol → Type 0) → Some x ≡ Some more → P x → P more
-by_some x more P h p = let same : x ≡ more = cc in subst P same p
-
 no_times : (n r : ℕ) → n ≡ 0 → n * (r + 1) ≤ 500
 no_times n r h = let none : n * (r + 1) ≡ 0 * (r + 1) = ap (λ (k : ℕ). k * (r + 1)) h in omega (arith, none)
 
@@ -311,7 +306,9 @@ limit_zero : (l : Limit) (n at : ℕ) (d : Draft) → Zero d → Zero (tables.li
 limit_zero l n at d z = other_restart d (tables.limit_came l n at d).limits z
 
 pub limit_begins : (l : Limit) (w : Word) (more : List Symbol) (d : Draft) → grammar.limit_behind l w ≡ Some more → demands Pre Post more (λ e. Zero d → Zero e) d
-limit_begins l w more d h = by_if (is_key w (grammar.limit_key l)) _ more (λ m. demands Pre Post m (λ e. Zero d → Zero e) d) h (λ n at fits clean. limit_zero l n at d)
+limit_begins l w more d h =
+    let P = λ (m : List Symbol). demands Pre Post m (λ e. Zero d → Zero e) d in
+    if_some (is_key w (grammar.limit_key l)) _ None more P (λ n at fits clean. limit_zero l n at d) (none_more more P) h
 
 pub as_same : (r n : ℕ) (d e : Draft) → Same d e → Balanced r n (tally d) → Balanced r n (tally e)
 as_same r n d e same b = subst (Balanced r n) (sym same) b
@@ -322,7 +319,8 @@ load_starts name at d b = record { records = omega (arith, b.records); few_recor
 
 pub loads_begin : (w : Word) (more : List Symbol) (d : Draft) → grammar.loads_behind w ≡ Some more → demands Pre Post more (λ e. Even d → Even e) d
 loads_begin w more d h =
-    by_if (is_key w keys.Load) _ more (λ m. demands Pre Post m (λ e. Even d → Even e) d) h
+    let P = λ (m : List Symbol). demands Pre Post m (λ e. Even d → Even e) d in
+    if_some (is_key w keys.Load) _ None more P
     (λ name at is clean. (
       tt,
       λ e row. λ clean2. (
@@ -334,16 +332,21 @@ loads_begin w more d h =
         ),
       ),
     ))
+    (none_more more P) h
 
 pub load_rows_begin : (w : Word) (more : List Symbol) (d : Draft) → grammar.more_rows_behind w ≡ Some more → demands Pre Post more (λ e. Even d → Even e) d
 load_rows_begin w more d h =
-    by_if (is_sign w signs.Comma) _ more (λ m. demands Pre Post m (λ e. Even d → Even e) d) h
+    let P = λ (m : List Symbol). demands Pre Post m (λ e. Even d → Even e) d in
+    if_some (is_sign w signs.Comma) _ None more P
     (tt, λ e row. λ clean2. (tt, λ g later. λ b. later (load_row_balances e clean2 (as_same 0 0 d e row b))))
+    (none_more more P) h
 
 session_starts : (at : ℕ) (d : Draft) → Even d → Even (statements.session_begins at d)
 session_starts at d b = record { records = omega (arith, b.records); few_records = b.few_records; statements = omega (arith, b.statements); few_statements = b.few_statements }
 
 pub session_begins : (w : Word) (at : ℕ) (more : List Symbol) (d : Draft) → grammar.session_behind w ≡ Some more → demands Pre Post more (λ e. Even d → Even e) (statements.session_begins at d)
 session_begins w at more d h =
-    by_if (is_key w keys.Session) _ more (λ m. demands Pre Post m (λ e. Even d → Even e) (statements.session_begins at d)) h
+    let P = λ (m : List Symbol). demands Pre Post m (λ e. Even d → Even e) (statements.session_begins at d) in
+    if_some (is_key w keys.Session) _ None more P
     (tt, λ e work. λ clean. (tt, λ g later. λ b. later (session_balances e (work (session_starts at d b)))))
+    (none_more more P) h

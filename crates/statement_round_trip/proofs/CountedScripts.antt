@@ -1,5 +1,5 @@
 -- A script that is read has no more records and statements than it may have.
-use Rattle.std.proofs.Common.{◌≡◌, ◌≤◌, ℕ, ◌+◌, ◌*◌, List, [], ◌∷◌, length, Some, None, refl, sym, ap, subst, ◌∙◌, arith}
+use Rattle.std.proofs.Common.{◌≡◌, ◌≤◌, ℕ, ◌+◌, ◌*◌, List, [], ◌∷◌, length, Some, None, refl, sym, ap, subst, ◌∙◌, arith, true}
 use Rattle.std.specs.List.{AllByRecursion}
 use Rattle.statement_words.specs.Spans.{IsFormed, IsFormedWord}
 use Rattle.statement_words.specs.declared.keywords.Keyword.TheVariants as keys
@@ -27,7 +27,7 @@ use Rattle.statement_reader.specs.Spells.{limit}
 use Rattle.statement_rules.proofs.AllParts.{clean_is_script}
 use Rattle.statement_rules.proofs.Demands.{read_meets}
 use Rattle.statement_round_trip.specs.WholeScripts.{records_of, statements_of, MayBeRead, PrintedAgain, ReadMayBeRead}
-use Rattle.statement_round_trip.proofs.BalancedParts.{as_same, by_some, end_same, inner_begins, is_inner_part, is_limit, limit_begins, name_same, load_rows_begin, loads_begin, session_begins, skipped, Post, Pre, Zero}
+use Rattle.statement_round_trip.proofs.BalancedParts.{as_same, end_same, if_some, inner_begins, is_inner_part, is_limit, limit_begins, name_same, load_rows_begin, loads_begin, none_more, session_begins, skipped, Post, Pre, Zero}
 use Rattle.statement_round_trip.proofs.ScriptsRead.{printed_is_spelled}
 use Rattle.statement_round_trip.proofs.SessionsRead.{less}
 use Rattle.statement_round_trip.proofs.Tallies.{record_is_counted, statement_balances, statement_is_counted, weight, work_balances, Even, Same, Tally}
@@ -127,24 +127,39 @@ end_goes d c from = λ clean. (tt, λ e later. λ b. later (work_balances c (fro
 same_even : (d c : Draft) → Same d c → Even d → Even c
 same_even d c same b = as_same 0 0 d c same b
 
+abbrev Goes : Word → ℕ → Draft → List Symbol → Type 0
+Goes w at d s = demands Pre Post s (Keeps d) (statements.statement_came w at d)
+
 statement_goes : (w : Word) (at : ℕ) (more : List Symbol) (d : Draft) → grammar.work_behind w ≡ Some more → (statements.statement_came w at d).first ≡ None
     → demands Pre Post more (Keeps d) (statements.statement_came w at d)
 statement_goes (word.Keyword keys.Select) at more d h clean =
-    by_some _ more (λ m. demands Pre Post m (Keeps d) (statements.statement_came (word.Keyword keys.Select) at d)) h (select_goes (word.Keyword keys.Select) at d refl clean)
+    if_some true _ None more (Goes (word.Keyword keys.Select) at d)
+    (select_goes (word.Keyword keys.Select) at d refl clean)
+    (none_more more (Goes (word.Keyword keys.Select) at d)) h
 statement_goes (word.Keyword keys.Update) at more d h clean =
-    by_some _ more (λ m. demands Pre Post m (Keeps d) (statements.statement_came (word.Keyword keys.Update) at d)) h (update_goes (word.Keyword keys.Update) at d refl clean)
+    if_some true _ None more (Goes (word.Keyword keys.Update) at d)
+    (update_goes (word.Keyword keys.Update) at d refl clean)
+    (none_more more (Goes (word.Keyword keys.Update) at d)) h
 statement_goes (word.Keyword keys.Delete) at more d h clean =
-    by_some _ more (λ m. demands Pre Post m (Keeps d) (statements.statement_came (word.Keyword keys.Delete) at d)) h (delete_goes (word.Keyword keys.Delete) at d refl clean)
+    if_some true _ None more (Goes (word.Keyword keys.Delete) at d)
+    (delete_goes (word.Keyword keys.Delete) at d refl clean)
+    (none_more more (Goes (word.Keyword keys.Delete) at d)) h
 statement_goes (word.Keyword keys.Insert) at more d h clean =
-    by_some _ more (λ m. demands Pre Post m (Keeps d) (statements.statement_came (word.Keyword keys.Insert) at d)) h (insert_goes (word.Keyword keys.Insert) at d (omega arith) clean)
+    if_some true _ None more (Goes (word.Keyword keys.Insert) at d)
+    (insert_goes (word.Keyword keys.Insert) at d (omega arith) clean)
+    (none_more more (Goes (word.Keyword keys.Insert) at d)) h
 statement_goes (word.Keyword keys.Lock) at more d h clean =
-    by_some _ more (λ m. demands Pre Post m (Keeps d) (statements.statement_came (word.Keyword keys.Lock) at d)) h (lock_goes (word.Keyword keys.Lock) at d refl clean)
+    if_some true _ None more (Goes (word.Keyword keys.Lock) at d)
+    (lock_goes (word.Keyword keys.Lock) at d refl clean)
+    (none_more more (Goes (word.Keyword keys.Lock) at d)) h
 statement_goes (word.Keyword keys.Commit) at more d h clean =
-    by_some _ more (λ m. demands Pre Post m (Keeps d) (statements.statement_came (word.Keyword keys.Commit) at d)) h
+    if_some true _ None more (Goes (word.Keyword keys.Commit) at d)
     (end_goes d (statements.statement_came (word.Keyword keys.Commit) at d) (same_even d (statements.statement_came (word.Keyword keys.Commit) at d) refl))
+    (none_more more (Goes (word.Keyword keys.Commit) at d)) h
 statement_goes (word.Keyword keys.Rollback) at more d h clean =
-    by_some _ more (λ m. demands Pre Post m (Keeps d) (statements.statement_came (word.Keyword keys.Rollback) at d)) h
+    if_some true _ None more (Goes (word.Keyword keys.Rollback) at d)
     (end_goes d (statements.statement_came (word.Keyword keys.Rollback) at d) (same_even d (statements.statement_came (word.Keyword keys.Rollback) at d) refl))
+    (none_more more (Goes (word.Keyword keys.Rollback) at d)) h
 statement_goes (word.Keyword k) at more d h clean = absurd (cc (h))
 statement_goes (word.Name name) at more d h clean = absurd (cc (h))
 statement_goes (word.Number n) at more d h clean = absurd (cc (h))

@@ -9,7 +9,7 @@ use Rattle.std.proofs.lemmas.Option.{slice_get_within}
 use Rattle.outside.specs.declared.wire.Passage.{Passage}
 use Rattle.sql_base.specs.Scripts.{Lies}
 use Rattle.sql_base.specs.declared.lock_names.TxnName.{TxnName}
-use Rattle.commit_journal.specs.Journal.{last_stamp}
+use Rattle.commit_journal.specs.Journal.{drawn_for, last_stamp}
 use Rattle.commit_journal.specs.declared.Drawn.{Drawn}
 use Rattle.dp_messages.specs.declared.requests.Request.{Request}
 use Rattle.requester_fs.specs.Asking.{AreSendable, Asking, HasTaken, next_at}
@@ -24,6 +24,7 @@ use Rattle.run_record.specs.declared.records.Act.TheVariants.{Draw}
 use Rattle.run_record.specs.declared.records.RunRecord.{RunRecord}
 use Rattle.record_laws.specs.SoFar.{LegalSoFar, way_of}
 use Rattle.record_laws.proofs.Counting.{stamps_count}
+use Rattle.record_laws.proofs.Drawing.{not_drawn}
 use Rattle.driver_laws.specs.Carrying.{IsCarried, passages_of}
 use Rattle.driver_laws.specs.Moves.{IsPosted, next_drawn, with_acts, with_drawn, with_log, with_way}
 use Rattle.driver_laws.specs.Scheduling.{Adds, Awaited, OfSession, awaited, awaits}
@@ -189,3 +190,9 @@ pub low_floor : (setting : Setting) (tellings : List Telling) (w : Scene) (at : 
     → floor ≤ length w.journal
 low_floor setting tellings w at s name floor run here draws =
     (stamps_count setting.script (record_of w) (ways_of w) run.so_far).floors (suc at) name floor (lies_at setting tellings w at s run here) (way_at w at s here ∙ draw_way s.requester.way name floor draws)
+
+-- no transaction draws twice
+pub undrawn : (setting : Setting) (tellings : List Telling) (w : Scene) (at : ℕ) (s : Seat Asking) (name : TxnName) (floor : ℕ) → Driving setting tellings w → slice_get w.seats at ≡ Some s → next_at s.requester.way 0 ≡ Draws name floor
+    → drawn_for name w.journal ≡ None
+undrawn setting tellings w at s name floor run here draws =
+    not_drawn setting.script (record_of w) (ways_of w) run.so_far (suc at) name floor (lies_at setting tellings w at s run here) (way_at w at s here ∙ draw_way s.requester.way name floor draws)

@@ -22,3 +22,4 @@ pub mod Over
 pub mod Beginning
 pub mod Turning
 pub mod Running
+pub mod Measured

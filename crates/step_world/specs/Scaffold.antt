@@ -3,3 +3,4 @@ pub mod Worlds
 pub mod Seats
 pub mod Mails
 pub mod Openings
+pub mod Measures

@@ -1,20 +1,21 @@
 //! The actions of sessions and partitions.
-ghost use Rattle.std.specs.Prelude.{◌≡◌, ◌≤◌, ◌<◌, ◌+◌, ◌^◌, suc, length, ◌++◌, ◌∷◌, [], List, max, OnOk, IfOk};
-ghost use Rattle.commit_journal.specs.Journal.{last_stamp};
+ghost use Rattle.std.specs.Prelude.{◌≡◌, ◌≤◌, ◌<◌, ◌+◌, ◌^◌, suc, length, ◌++◌, ◌∷◌, [], List, max, OnOk, IfOk, None};
+ghost use Rattle.commit_journal.specs.Journal.{drawn_for, last_stamp};
 ghost use Rattle.std.specs.List.{AllByRecursion};
 ghost use Rattle.driver_laws.specs.Scheduling.{OfPartition, OfSession};
 ghost use Rattle.step_world.specs.Tellings.{Telling};
 ghost use Rattle.step_world.specs.declared.seats.Turn.{Turn};
+ghost use Rattle.step_world.specs.Scaffold.Measures.{LeavesLess};
 ghost use Rattle.step_world.specs.Scaffold.Worlds.{AreLater, Driving, GoesOn, GoesOnWith, HasMail, Setting, TurnAt, scene};
 
 use crate::seats::Outgoing;
 use crate::worlds::World;
-use commit_journal::Drawn;
+use commit_journal::{CommitFault, Journal};
 use outside::Passage;
 use requester_fs::Requester;
 use run_record::Act;
 use session_grammar::Answer;
-use sql_base::{List, NoMemory, TxnName};
+use sql_base::{NoMemory, TxnName};
 use std::alloc::Global;
 
 impl<Q: Requester> World<Q> {
@@ -24,6 +25,7 @@ impl<Q: Requester> World<Q> {
         requires turn { TurnAt (scene Q.asking self.old) at Turn.Send }
         requires single { AllByRecursion (λ s. Q.single s.requester) self.old.seats.items }
         ensures goes_on { OnOk result (GoesOnWith at passage (scene Q.asking self.old) (scene Q.asking self.new)) }
+        ensures less { OnOk result (LeavesLess Q.asking Q.left self.old self.new) }
         ensures later { OnOk result (AreLater Q.single Q.allows self.old.seats.items self.new.seats.items) }
     {
         let seat = &mut self.seats[at];
@@ -49,6 +51,7 @@ impl<Q: Requester> World<Q> {
         requires turn { TurnAt (scene Q.asking self.old) at Turn.Take }
         requires single { AllByRecursion (λ s. Q.single s.requester) self.old.seats.items }
         ensures goes_on { OnOk result (GoesOn (OfSession (suc at)) (scene Q.asking self.old) (scene Q.asking self.new)) }
+        ensures less { OnOk result (LeavesLess Q.asking Q.left self.old self.new) }
         ensures later { OnOk result (AreLater Q.single Q.allows self.old.seats.items self.new.seats.items) }
     {
         let seat = &mut self.seats[at];
@@ -66,6 +69,7 @@ impl<Q: Requester> World<Q> {
         requires turn { TurnAt (scene Q.asking self.old) at Turn.ServeByHand }
         requires single { AllByRecursion (λ s. Q.single s.requester) self.old.seats.items }
         ensures goes_on { OnOk result (GoesOn (OfSession (suc at)) (scene Q.asking self.old) (scene Q.asking self.new)) }
+        ensures less { OnOk result (LeavesLess Q.asking Q.left self.old self.new) }
         ensures later { OnOk result (AreLater Q.single Q.allows self.old.seats.items self.new.seats.items) }
     {
         let seat = &mut self.seats[at];
@@ -86,6 +90,7 @@ impl<Q: Requester> World<Q> {
         requires turn { TurnAt (scene Q.asking self.old) at Turn.Draw }
         requires single { AllByRecursion (λ s. Q.single s.requester) self.old.seats.items }
         ensures goes_on { OnOk result (GoesOn (OfSession (suc at)) (scene Q.asking self.old) (scene Q.asking self.new)) }
+        ensures less { OnOk result (LeavesLess Q.asking Q.left self.old self.new) }
         ensures later { OnOk result (AreLater Q.single Q.allows self.old.seats.items self.new.seats.items) }
     {
         let seat = &mut self.seats[at];
@@ -103,6 +108,7 @@ impl<Q: Requester> World<Q> {
         requires mail { HasMail self.old.processes.items part }
         requires few { part < 2 ^ 32 }
         ensures goes_on { OnOk result (GoesOn (OfPartition part) (scene Q.asking self.old) (scene Q.asking self.new)) }
+        ensures less { OnOk result (LeavesLess Q.asking Q.left self.old self.new) }
         ensures later { OnOk result (AreLater Q.single Q.allows self.old.seats.items self.new.seats.items) }
     {
         let sender = self.processes[part].serve_oldest(alloc)?;
@@ -117,14 +123,22 @@ impl<Q: Requester> World<Q> {
     }
 }
 
-/// Draws the next stamp above the floor. The stamps of a run are 1, 2, 3 and so on, and no floor is above the last of them.
-fn draw(journal: &mut List<Drawn>, name: TxnName, floor: u64) -> Result<u64, NoMemory>
+/// Draws the next stamp above the floor. No transaction of a run draws twice; its stamps are 1, 2, 3 and so on, and no
+/// floor is above the last of them, so that no stamp is refused.
+fn draw(journal: &mut Journal, name: TxnName, floor: u64) -> Result<u64, NoMemory>
+    requires fresh { drawn_for name journal.old ≡ None }
     requires counted { last_stamp 0 journal.old ≡ length journal.old }
     requires low { floor ≤ length journal.old }
     ensures stamp { IfOk result (λ stamp. stamp ≡ max (last_stamp 0 journal.old) floor + 1) }
     ensures drawn { OnOk result (journal.new ≡ journal.old ++ record { name = name; floor = floor; stamp = max (last_stamp 0 journal.old) floor + 1 } ∷ []) }
 {
-    let stamp = journal.items().len() as u64 + 1;
-    journal.push(Drawn { name, floor, stamp })?;
-    Ok(stamp)
+    // A list in memory is far from having as many elements as there are stamps.
+    let is_left = journal.drawn().len() < usize::MAX;
+    prove!(is_left);
+    match journal.commit(name, floor) {
+        Ok(stamp) => Ok(stamp),
+        Err(CommitFault::NoMemory) => Err(NoMemory),
+        Err(CommitFault::AlreadyCommitted { .. }) => unreachable!(),
+        Err(CommitFault::StampsSpent) => unreachable!(),
+    }
 }

@@ -9,14 +9,15 @@ ghost use Rattle.step_world.specs.Choosing.{actor_seen};
 ghost use Rattle.step_world.specs.Runs.{AllCarried, AreNew, AreSeated, CanAct, GoesOnFrom};
 ghost use Rattle.step_world.specs.Tellings.{HasTold, Telling};
 ghost use Rattle.step_world.specs.declared.choosing.Agent.{Agent};
+ghost use Rattle.step_world.specs.Scaffold.Measures.{LeavesLess};
 ghost use Rattle.step_world.specs.Scaffold.Worlds.{AreLater, Driving, Setting, scene};
 
 use crate::choosing::Agent;
 use crate::ending::record;
-use crate::faults::not_carried;
 use crate::openings::open;
 use crate::seats::{Seat, Turn};
 use crate::worlds::World;
+use commit_journal::Journal;
 use outside::{Passage, Wire};
 use requester_fs::Requester;
 use run_record::RunRecord;
@@ -24,7 +25,7 @@ use sql_base::{List, NoMemory, Script};
 use std::alloc::Global;
 
 /// Runs the script by its requesters, one for each session, with a wire for each at least. Each action is that of the
-/// enabled session or partition that the next choice names. It waits for nobody.
+/// enabled session or partition that the next choice names. It waits for nobody, and ends once nobody is enabled.
 pub fn drive_with<Q: Requester>(
     alloc: Global,
     script: &Script,
@@ -45,17 +46,14 @@ pub fn drive_with<Q: Requester>(
     let mut world = World {
         seats: take_seats(alloc, requesters)?,
         processes: open(alloc, script)?,
-        journal: List::new(alloc),
+        journal: Journal::new(alloc),
         acts: List::new(alloc),
     };
     start_from(&mut wires, 0, world.seats.len());
-    for _turn in 0..u64::MAX {
-        match world.next_agent(alloc, schedule)? {
-            Some(agent) => act(alloc, &mut world, &mut wires, agent)?,
-            None => return record(alloc, world),
-        }
+    while let Some(agent) = world.next_agent(alloc, schedule)? {
+        act(alloc, &mut world, &mut wires, agent)?;
     }
-    Err(not_carried())
+    record(alloc, world)
 }
 
 /// The seats of the sessions, with nothing done yet.
@@ -127,6 +125,7 @@ fn act<Q: Requester>(
     ensures goes_on { OnOk result (GoesOnFrom (actor_seen agent)
         (map {B = Telling} (λ w. record { first = first w; round = round w }) wires.old.items) (scene Q.asking world.old)
         (map {B = Telling} (λ w. record { first = first w; round = round w }) wires.new.items) (scene Q.asking world.new)) }
+    ensures less { OnOk result (LeavesLess Q.asking Q.left world.old world.new) }
     ensures later { OnOk result (AreLater Q.single Q.allows world.old.seats.items world.new.seats.items) }
     ensures wires { length wires.new.items ≡ length wires.old.items }
 {
@@ -150,6 +149,7 @@ fn act_for<Q: Requester>(
     ensures goes_on { OnOk result (GoesOnFrom (OfSession (suc at))
         (map {B = Telling} (λ w. record { first = first w; round = round w }) wires.old.items) (scene Q.asking world.old)
         (map {B = Telling} (λ w. record { first = first w; round = round w }) wires.new.items) (scene Q.asking world.new)) }
+    ensures less { OnOk result (LeavesLess Q.asking Q.left world.old world.new) }
     ensures later { OnOk result (AreLater Q.single Q.allows world.old.seats.items world.new.seats.items) }
     ensures wires { length wires.new.items ≡ length wires.old.items }
 {

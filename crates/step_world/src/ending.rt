@@ -34,7 +34,7 @@ pub fn record<Q: Requester>(alloc: Global, world: World<Q>) -> Result<RunRecord,
     Ok(RunRecord {
         histories,
         rows,
-        journal,
+        journal: journal.into_drawn(),
         logs,
         acts,
     })

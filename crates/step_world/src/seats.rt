@@ -1,10 +1,11 @@
 //! What a driver keeps of a session.
-ghost use Rattle.std.specs.Prelude.{◌≡◌, ◌<◌, List, OnOk, IfOk};
+ghost use Rattle.std.specs.Prelude.{◌≡◌, ◌≤◌, ◌<◌, ℕ, List, false, OnOk, IfOk};
 ghost use Rattle.session_grammar.specs.declared.logs.LogEntry.{LogEntry};
 ghost use Rattle.outside.specs.Wire.{is_loss};
 ghost use Rattle.session_grammar.specs.Rows.{is_end};
 ghost use Rattle.session_grammar.specs.Sessions.{MayCome, Sends, Draws, fits_next};
-ghost use Rattle.requester_fs.specs.Asking.{IsAsking, IsSpelled, next_at};
+ghost use Rattle.requester_fs.specs.Asking.{Advances, IsAsking, IsSpelled, next_at};
+ghost use Rattle.step_world.specs.Scaffold.Measures.{Spends};
 ghost use Rattle.step_world.specs.Scaffold.Seats.{IsAnswered, IsSent, HasRequest, IsAwaited, IsOut, MayFail, is_open, seen, served_at, turn_of, turn_with};
 
 use crate::paths::is_loss;
@@ -161,6 +162,7 @@ impl<Q: Requester> Seat<Q> {
         requires fails { MayFail (seen Q.asking self.old) is_end }
         requires single { Q.single self.old.requester }
         ensures sent { OnOk result (IsSent passage is_end (seen Q.asking self.old) (seen Q.asking self.new)) }
+        ensures spends { OnOk result (self.old.waits ≡ false → Spends Q.left self.old self.new) }
         ensures single { OnOk result (Q.single self.new.requester) }
         ensures allows { OnOk result ((log : List LogEntry) → Q.allows self.new.requester log → Q.allows self.old.requester log) }
     {
@@ -181,6 +183,7 @@ impl<Q: Requester> Seat<Q> {
         requires spelled { IsSpelled answer }
         requires single { Q.single self.old.requester }
         ensures answered { OnOk result (IsAnswered answer (seen Q.asking self.old) (seen Q.asking self.new)) }
+        ensures fewer { OnOk result ((above : List ℕ → ℕ) (n : ℕ) → ((key : List ℕ) → above key ≤ n) → Advances above n (next_at (Q.asking self.old.requester).way 0) answer → Q.left self.new.requester above n < Q.left self.old.requester above n) }
         ensures single { OnOk result (Q.single self.new.requester) }
         ensures allows { OnOk result ((log : List LogEntry) → Q.allows self.new.requester log → Q.allows self.old.requester log) }
     {

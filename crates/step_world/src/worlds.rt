@@ -1,7 +1,7 @@
 //! A run between two actions.
 use crate::processes::DiskProcess;
 use crate::seats::Seat;
-use commit_journal::Drawn;
+use commit_journal::Journal;
 use run_record::Act;
 use sql_base::List;
 
@@ -12,6 +12,6 @@ pub struct World<Q> {
     pub seats: Vec<Seat<Q>>,
     /// The partitions of all tables, in their order.
     pub processes: Vec<DiskProcess>,
-    pub journal: List<Drawn>,
+    pub journal: Journal,
     pub acts: List<Act>,
 }

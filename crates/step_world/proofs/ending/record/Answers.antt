@@ -9,4 +9,5 @@ returns-clause-kept g c =
     let rows = c.in_ok-rows.ensures ∙ ap (λ processes. map (λ d. rows_in d.partition) processes) c.as_slice.ensures.value in
     let histories = c.in_ok-histories.ensures in
     let logs = c.in_ok-logs.ensures.logs ∙ sym (map-map (λ s. s.requester.log) (seen g.Q.Requester.asking) c.args.world.seats.items) in
-    λ i. record { histories = histories i; rows = rows i; journal = c.args.world.journal; logs = logs i; acts = c.args.world.acts }
+    let journal = c.into_drawn.ensures.drawn in
+    λ i. record { histories = histories i; rows = rows i; journal = journal i; logs = logs i; acts = c.args.world.acts }

@@ -3,7 +3,9 @@ use Rattle.std.proofs.Common.{◌≡◌, ◌<◌, ◌+◌, ◌++◌, ◌∷◌, 
 use Rattle.std.specs.Prelude.{Result, OnOk, slice_get, slice_set}
 use Rattle.sql_base.specs.declared.lock_names.TxnName.{TxnName}
 use Rattle.commit_journal.specs.declared.Drawn.{Drawn}
-use Rattle.requester_fs.specs.Asking.{Asking, next_at}
+use Rattle.requester_fs.specs.Asking.{Advances, Asking, next_at}
+use Rattle.ending_laws.specs.Keys.{above_in, keys_count}
+use Rattle.step_world.proofs.Measured.{taken-less}
 use Rattle.session_grammar.specs.Sessions.{Draws, MayCome}
 use Rattle.session_grammar.specs.declared.logs.Answer.TheVariants.{Stamp}
 use Rattle.run_record.specs.declared.records.Act.{Act}
@@ -14,7 +16,7 @@ use Rattle.step_world.specs.Scaffold.Seats.{IsAnswered, seen, turn_of}
 use Rattle.step_world.specs.Scaffold.Worlds.{Driving, GoesOn, Scene, record_of, scene}
 use Rattle.step_world.specs.declared.seats.Seat.{Seat}
 use Rattle.step_world.proofs.Acting.{next_scene}
-use Rattle.step_world.proofs.Drawing.{counted_at, drew_on, low_floor}
+use Rattle.step_world.proofs.Drawing.{counted_at, drew_on, low_floor, undrawn}
 use Rattle.step_world.proofs.Handed.{all_at, later_one, same_scene, within_map}
 use Rattle.step_world.proofs.Opened.{seat_is}
 use Rattle.step_world.proofs.Places.{map_set}
@@ -40,6 +42,13 @@ commit-floor-requires g c =
     let q = c.index_mut-seat.result.now in
     let is = seat_is (seen g.Q.Requester.asking) c.args.self.now.seats.items c.args.at q c.requires.turn.0 c.requires.turn.1 c.index_mut-seat.ensures.value in
     ap turn_of is.1 ∙ c.requires.turn.2
+
+pub draw-requires-clause-fresh : goal.draw-requires-clause-fresh
+draw-requires-clause-fresh g c =
+    let q = c.index_mut-seat.result.now in
+    let is = seat_is (seen g.Q.Requester.asking) c.args.self.now.seats.items c.args.at q c.requires.turn.0 c.requires.turn.1 c.index_mut-seat.ensures.value in
+    undrawn c.requires.driving.0 c.requires.driving.1 (scene g.Q.Requester.asking c.args.self.now) c.args.at (seen g.Q.Requester.asking q) c.commit-floor.result.0 c.commit-floor.result.1 c.requires.driving.2
+    (c.requires.turn.1 ∙ ap Some (sym is.1)) (sym c.commit-floor.ensures)
 
 pub draw-requires-clause-counted : goal.draw-requires-clause-counted
 draw-requires-clause-counted g c = counted_at c.requires.driving.0 c.requires.driving.1 (scene g.Q.Requester.asking c.args.self.now) c.requires.driving.2
@@ -79,3 +88,10 @@ returns-clause-later g c =
     let q = c.index_mut-seat.result.now in
     let is = seat_is (seen g.Q.Requester.asking) c.args.self.now.seats.items c.args.at q c.requires.turn.0 c.requires.turn.1 c.index_mut-seat.ensures.value in
     later_one g.Q.Requester.single g.Q.Requester.allows c.take.result c.args.self.now.seats.items c.args.at q c.take.new.self is.0 c.take.ensures.single c.take.ensures.allows
+
+pub returns-clause-less : goal.returns-clause-less
+returns-clause-less g c =
+    let q = c.index_mut-seat.result.now in
+    let is = seat_is (seen g.Q.Requester.asking) c.args.self.now.seats.items c.args.at q c.requires.turn.0 c.requires.turn.1 c.index_mut-seat.ensures.value in
+    taken-less g.Q.Requester.asking g.Q.Requester.left (scene g.Q.Requester.asking c.args.self.now) c.args.self.now.seats.items c.args.self.now.processes.items c.take.result c.args.at q c.take.new.self is.0 (Stamp c.in_ok-stamp.stamp)
+    c.take.ensures.answered c.take.ensures.fewer (λ setting tellings run. subst (λ next. Advances (above_in setting.script) (keys_count setting.script) next (Stamp c.in_ok-stamp.stamp)) c.commit-floor.ensures tt)

@@ -15,6 +15,7 @@ use Rattle.step_world.specs.declared.seats.Outgoing.{Outgoing}
 use Rattle.step_world.specs.declared.seats.Seat.{Seat}
 use Rattle.step_world.specs.declared.seats.Turn.TheVariants as turn
 use Rattle.step_world.proofs.Acting.{next_scene}
+use Rattle.step_world.proofs.Measured.{sent-less}
 use Rattle.step_world.proofs.Handed.{all_at, few_losses, later_one, may_fail, process_at, same_scene, within_map}
 use Rattle.step_world.proofs.Opened.{OpenSeat, opened_at, out_is, seat_is, turn_send}
 use Rattle.step_world.proofs.Places.{map_set}
@@ -120,3 +121,20 @@ returns-clause-later g c =
     let q = c.index_mut-seat.result.now in
     let is = seat_is (seen g.Q.Requester.asking) c.args.self.now.seats.items c.args.at q c.requires.turn.0 c.requires.turn.1 c.index_mut-seat.ensures.value in
     later_one g.Q.Requester.single g.Q.Requester.allows c.note_passage.result c.args.self.now.seats.items c.args.at q c.note_passage.new.self is.0 c.note_passage.ensures.single c.note_passage.ensures.allows
+
+pub returns-clause-less : goal.returns-clause-less
+returns-clause-less g c =
+    let q = c.index_mut-seat.result.now in
+    let w = scene g.Q.Requester.asking c.args.self.now in
+    let is = seat_is (seen g.Q.Requester.asking) c.args.self.now.seats.items c.args.at q c.requires.turn.0 c.requires.turn.1 c.index_mut-seat.ensures.value in
+    let s = seen g.Q.Requester.asking q in
+    let here = c.requires.turn.1 ∙ ap Some (sym is.1) in
+    let turns = ap turn_of is.1 ∙ c.requires.turn.2 in
+    let opened = opened_at c.requires.driving.0 c.requires.driving.1 w c.args.at s c.requires.driving.2 here (turn_send s turns).0 in
+    let out = out_is s opened.r c.in_ok-part.field-0 opened.sends c.in_ok-part.ensures in
+    let number = (c.requires.driving.2.seats c.args.at s here).number in
+    let new = seen g.Q.Requester.asking c.note_passage.new.self in
+    let part = c.in_ok-part.field-0.part in
+    let found = process_at w.processes part c.index_mut.result.now (subst (λ p. p < length w.processes) (sym out.0) opened.part) c.index_mut.ensures.value in
+    sent-less g.Q.Requester.asking g.Q.Requester.left w c.args.self.now.seats.items c.args.self.now.processes.items c.note_passage.result c.args.at q c.note_passage.new.self is.0 part c.index_mut.result.now c.post.new.self found c.args.passage
+    (request_bytes c.in_ok-part.field-0.envelope) c.in_ok-post.ensures.mail (turn_send s turns).1 c.note_passage.ensures.spends

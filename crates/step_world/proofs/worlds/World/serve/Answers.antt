@@ -14,6 +14,7 @@ use Rattle.step_world.specs.Scaffold.Worlds.{Driving, Scene, Setting, scene}
 use Rattle.step_world.specs.declared.processes.DiskProcess.{DiskProcess}
 use Rattle.step_world.specs.declared.processes.Sender.{Sender}
 use Rattle.step_world.specs.declared.seats.Seat.{Seat}
+use Rattle.step_world.proofs.Measured.{served-less}
 use Rattle.step_world.proofs.Handed.{later_same, process_at, same_scene}
 use Rattle.step_world.proofs.Places.{get_map, map_set, some_get}
 use Rattle.step_world.proofs.Serving.{sender_lies, served_on}
@@ -92,3 +93,18 @@ returns-clause-later g c =
     let it : sender.opener - 1 < length c.args.self.now.seats.items = omega (arith, long, within) in
     let q = c.index_mut-2.result.now in
     later_same g.Q.Requester.single g.Q.Requester.allows c.args.self.now.seats.items (sender.opener - 1) q c.note_served.new.self (process_at c.args.self.now.seats.items (sender.opener - 1) q it c.index_mut-2.ensures.value) c.note_served.ensures.same
+
+pub returns-clause-less : goal.returns-clause-less
+returns-clause-less g c = λ setting tellings run.
+    let w = scene g.Q.Requester.asking c.args.self.now in
+    let sender = c.in_ok-sender.sender in
+    let less = slice_get_within c.args.self.now.processes.items c.args.part c.requires.mail.0 c.requires.mail.1 in
+    let found = process_at c.args.self.now.processes.items c.args.part c.index_mut.result.now less c.index_mut.ensures.value in
+    let lies = sender_lies setting tellings w c.args.part c.index_mut.result.now c.serve_oldest.new.self sender run found c.in_ok-sender.ensures in
+    let long = length-map c.args.self.now.seats.items (seen g.Q.Requester.asking) in
+    let within = sender_seat setting tellings w sender.opener run lies in
+    let it : sender.opener - 1 < length c.args.self.now.seats.items = omega (arith, long, within) in
+    let q = c.index_mut-2.result.now in
+    let here_q = process_at c.args.self.now.seats.items (sender.opener - 1) q it c.index_mut-2.ensures.value in
+    served-less g.Q.Requester.asking g.Q.Requester.left w c.args.self.now.seats.items c.args.self.now.processes.items (sender.opener - 1) q c.note_served.new.self here_q c.args.part c.index_mut.result.now c.serve_oldest.new.self found sender
+    c.in_ok-sender.ensures c.note_served.ensures.same (ap (λ (x : Seat Asking). x.losses) c.note_served.ensures.seen) (ap (λ (x : Seat Asking). x.waits) c.note_served.ensures.seen) setting tellings run

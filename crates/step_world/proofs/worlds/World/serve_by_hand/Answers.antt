@@ -19,6 +19,7 @@ use Rattle.step_world.specs.declared.seats.Outgoing.{Outgoing}
 use Rattle.step_world.specs.declared.seats.Seat.{Seat}
 use Rattle.step_world.specs.declared.seats.Turn.TheVariants as turn
 use Rattle.step_world.proofs.Acting.{next_scene}
+use Rattle.step_world.proofs.Measured.{hand-advances, handed-less}
 use Rattle.step_world.proofs.Handed.{all_at, later_one, process_at, same_scene, within_map}
 use Rattle.step_world.proofs.Handing.{can_reply, handed_comes, handed_fits, handed_on}
 use Rattle.step_world.proofs.Opened.{OpenSeat, opened_at, out_is, seat_is, turn_hand}
@@ -209,3 +210,30 @@ returns-clause-later g c =
     let q = c.index_mut-seat.result.now in
     let is = seat_is (seen g.Q.Requester.asking) c.args.self.now.seats.items c.args.at q c.requires.turn.0 c.requires.turn.1 c.index_mut-seat.ensures.value in
     later_one g.Q.Requester.single g.Q.Requester.allows c.take.result c.args.self.now.seats.items c.args.at q c.take.new.self is.0 c.take.ensures.single c.take.ensures.allows
+
+pub returns-clause-less : goal.returns-clause-less
+returns-clause-less g c =
+    let q = c.index_mut-seat.result.now in
+    let w = scene g.Q.Requester.asking c.args.self.now in
+    let is = seat_is (seen g.Q.Requester.asking) c.args.self.now.seats.items c.args.at q c.requires.turn.0 c.requires.turn.1 c.index_mut-seat.ensures.value in
+    let s = seen g.Q.Requester.asking q in
+    let here : slice_get w.seats c.args.at ≡ Some s = c.requires.turn.1 ∙ ap Some (sym is.1) in
+    let turns : turn_of s ≡ turn.ServeByHand = ap turn_of is.1 ∙ c.requires.turn.2 in
+    let setting = c.requires.driving.0 in
+    let tellings = c.requires.driving.1 in
+    let run = c.requires.driving.2 in
+    let o = opened_at setting tellings w c.args.at s run here (turn_hand s turns).0 in
+    let out = c.in_ok-part.field-0 in
+    let same = out_is s o.r out o.sends c.in_ok-part.ensures in
+    let number = (run.seats c.args.at s here).number in
+    let envelope : out.envelope ≡ record { opener = suc c.args.at; sync = o.r.sync; request = o.r.request } = same.1 ∙ (λ i. record { opener = number i; sync = o.r.sync; request = o.r.request }) in
+    let d = c.index_mut.result.now in
+    let found = subst (λ p. slice_get w.processes p ≡ Some d) same.0 (process_at w.processes out.part d (subst (λ p. p < length w.processes) (sym same.0) o.part) c.index_mut.ensures.value) in
+    let after = c.serve_and_reply.new.self in
+    let reply = c.in_ok-reply.reply in
+    let handled : Handles d.partition (suc c.args.at) o.r.sync o.r.request after.partition = subst (λ (e : Envelope). Handles d.partition e.opener e.sync e.request after.partition) envelope c.in_ok-reply.ensures.handled in
+    let told : (opener_in after.partition (suc c.args.at)).kept ≡ Some reply = subst (λ (e : Envelope). (opener_in after.partition e.opener).kept ≡ Some reply) envelope c.in_ok-reply.ensures.reply in
+    let there = process_at w.processes out.part d (subst (λ p. p < length w.processes) (sym same.0) o.part) c.index_mut.ensures.value in
+    let fit = (handed_fits setting tellings w c.args.at s o d run found turns after.partition reply handled told).0 in
+    handed-less g.Q.Requester.asking g.Q.Requester.left w c.args.self.now.seats.items c.args.self.now.processes.items c.take.result c.args.at q c.take.new.self is.0 out.part d after there (Reply reply) c.in_ok-reply.ensures.mail
+    c.take.ensures.answered c.take.ensures.fewer (hand-advances w c.args.at s o reply (turn_hand s turns).2 fit)

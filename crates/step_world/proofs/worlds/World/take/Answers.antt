@@ -18,6 +18,7 @@ use Rattle.step_world.specs.declared.processes.DiskProcess.{DiskProcess}
 use Rattle.step_world.specs.declared.seats.Seat.{Seat}
 use Rattle.step_world.specs.declared.seats.Turn.TheVariants as turn
 use Rattle.step_world.proofs.Acting.{next_scene}
+use Rattle.step_world.proofs.Measured.{reply-advances, taken-less}
 use Rattle.step_world.proofs.Handed.{all_at, later_one, process_at, same_scene, within_map}
 use Rattle.step_world.proofs.Opened.{OpenSeat, opened_at, seat_is, turn_take}
 use Rattle.step_world.proofs.Places.{map_set}
@@ -180,3 +181,21 @@ returns-clause-later g c =
     let q = c.index_mut-seat.result.now in
     let is = seat_is (seen g.Q.Requester.asking) c.args.self.now.seats.items c.args.at q c.requires.turn.0 c.requires.turn.1 c.index_mut-seat.ensures.value in
     later_one g.Q.Requester.single g.Q.Requester.allows c.take.result c.args.self.now.seats.items c.args.at q c.take.new.self is.0 c.take.ensures.single c.take.ensures.allows
+
+pub returns-clause-less : goal.returns-clause-less
+returns-clause-less g c =
+    let q = c.index_mut-seat.result.now in
+    let w = scene g.Q.Requester.asking c.args.self.now in
+    let is = seat_is (seen g.Q.Requester.asking) c.args.self.now.seats.items c.args.at q c.requires.turn.0 c.requires.turn.1 c.index_mut-seat.ensures.value in
+    let s = seen g.Q.Requester.asking q in
+    let here : slice_get w.seats c.args.at ≡ Some s = c.requires.turn.1 ∙ ap Some (sym is.1) in
+    let turns : turn_of s ≡ turn.Take = ap turn_of is.1 ∙ c.requires.turn.2 in
+    let run = c.requires.driving.2 in
+    let o = opened_at c.requires.driving.0 c.requires.driving.1 w c.args.at s run here (turn_take s turns).0 in
+    let same = awaited_is s o.r c.awaited-part.result.0 c.awaited-part.result.1 o.sends c.awaited-part.ensures in
+    let number = (run.seats c.args.at s here).number in
+    let found = subst (λ p. slice_get w.processes p ≡ Some c.index.result.now) same.0
+    (process_at w.processes c.awaited-part.result.0 c.index.result.now (subst (λ p. p < length w.processes) (sym same.0) o.part) c.index.ensures) in
+    let told = subst (λ m. (opener_in c.index.result.now.partition m).kept ≡ Some c.in_ok-reply.reply) number c.in_ok-reply.ensures in
+    taken-less g.Q.Requester.asking g.Q.Requester.left w c.args.self.now.seats.items c.args.self.now.processes.items c.take.result c.args.at q c.take.new.self is.0 (Reply c.in_ok-reply.reply) c.take.ensures.answered c.take.ensures.fewer
+    (reply-advances w c.args.at s o c.index.result.now c.in_ok-reply.reply found (last_is c.requires.driving.0 c.requires.driving.1 w c.args.at s o c.index.result.now run found (turn_take s turns).2) told)
