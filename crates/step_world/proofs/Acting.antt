@@ -1,6 +1,6 @@
 -- One act of a session: what of it keeps the run going.
-use Rattle.std.proofs.Common.{◌≡◌, ◌≢◌, ℕ, zero, suc, List, [], ◌∷◌, ◌++◌, length, map, Option, Some, None, Bool, true, false, refl, ap, sym, ◌∙◌, subst, inl, inr}
-use Rattle.std.specs.Prelude.{◌||◌, ◌==◌, ◌⊎◌, option_map, slice_get, slice_set, unwrap_or}
+use Rattle.std.proofs.Common.{◌≡◌, ◌≢◌, ℕ, zero, suc, List, [], ◌∷◌, ◌++◌, length, Option, Some, Bool, true, false, refl, ap, sym, ◌∙◌, inl, inr}
+use Rattle.std.specs.Prelude.{◌||◌, option_map, slice_get, slice_set, unwrap_or}
 use Rattle.std.specs.List.{AllByRecursion}
 use Rattle.std.proofs.lemmas.Bool.{ne_eqb, eq-eqb}
 use Rattle.commit_journal.specs.declared.Drawn.{Drawn}
@@ -8,13 +8,13 @@ use Rattle.requester_fs.specs.Asking.{Asking}
 use Rattle.run_record.specs.declared.records.Act.{Act}
 use Rattle.run_record.specs.declared.records.Act.TheVariants.{Send, Take, ByHand, Draw, Serve}
 use Rattle.record_laws.specs.SoFar.{LegalSoFar}
-use Rattle.driver_laws.specs.Scheduling.{Adds, IsOldest, OfSession, Step, actor_of, is_by}
+use Rattle.driver_laws.specs.Scheduling.{Adds, IsOldest, OfSession, actor_of, is_by}
 use Rattle.driver_laws.proofs.Scheduling.{acts_more}
 use Rattle.step_world.specs.Tellings.{Telling}
 use Rattle.step_world.specs.Scaffold.Worlds.{Driving, EachAt, IsProcess, IsSeat, Scene, Setting, WasPosted, has_some, live_in, next_actor, record_of, seat_steps, steps_in, ways_of}
 use Rattle.step_world.specs.declared.processes.DiskProcess.{DiskProcess}
 use Rattle.step_world.specs.declared.seats.Seat.{Seat}
-use Rattle.step_world.proofs.Places.{each_set, get_set_other, get_set_same, same_or}
+use Rattle.step_world.proofs.Places.{each_set, get_set_other, same_or}
 use Rattle.step_world.proofs.Staying.{acts_with, by_it, not_by, not_served, seat_stays, serves_nothing}
 
 abbrev pub next_scene : Scene → ℕ → Seat Asking → List DiskProcess → List Drawn → Act → Scene

@@ -1,22 +1,20 @@
 -- A session's request is answered: what of it keeps the run going.
-use Rattle.std.proofs.Common.{◌≡◌, ◌≢◌, ◌≤◌, ◌<◌, ◌-◌, ◌+◌, ℕ, zero, suc, List, [], ◌∷◌, ◌++◌, length, map, get_or, replicate, Option, Some, None, Bool, true, false, cond, refl, ap, sym, ◌∙◌, subst, arith, inl, inr}
-use Rattle.std.specs.Prelude.{Contains, ◌&&◌, ◌==◌, option_map, slice_get, slice_set}
+use Rattle.std.proofs.Common.{◌≡◌, ◌≢◌, ◌<◌, ◌-◌, ℕ, zero, suc, List, [], ◌∷◌, ◌++◌, length, map, get_or, Option, Some, None, Bool, true, false, cond, refl, ap, sym, ◌∙◌, subst, arith, inl, inr}
+use Rattle.std.specs.Prelude.{Contains, ◌==◌, option_map, slice_get, slice_set}
 use Rattle.std.specs.List.{AllByRecursion, list_any}
 use Rattle.std.proofs.lemmas.Bool.{eqb-true}
 use Rattle.std.proofs.lemmas.List.{length-map}
 use Rattle.std.proofs.lemmas.List.Elements.{Contains-append_cases, Contains-append_left, Contains-append_right}
-use Rattle.sql_base.specs.Scripts.{Lies}
 use Rattle.sql_base.specs.declared.scripts.Script.{Script}
 use Rattle.dp_messages.specs.declared.requests.Request.{Request}
 use Rattle.partition_state.specs.declared.entries.Entry.{Entry}
 use Rattle.requester_fs.specs.Asking.{Asking, HasTaken, next_at}
-use Rattle.session_grammar.specs.Rows.{is_end}
-use Rattle.session_grammar.specs.Sessions.{Next, Sends, entries_kept}
+use Rattle.session_grammar.specs.Sessions.{Sends, entries_kept}
 use Rattle.session_grammar.specs.UnderWay.{AreAbove, Awaiting, Drawing, IsAbove, Sending, TakesAnswer, UnderWay, unanswered}
 use Rattle.session_grammar.specs.declared.logs.Answer.{Answer}
 use Rattle.session_grammar.specs.declared.logs.Answer.TheVariants.{PathFailed}
 use Rattle.session_grammar.specs.declared.logs.LogEntry.{LogEntry}
-use Rattle.session_grammar.specs.declared.logs.LogEntry.TheVariants.{Asked, Drew}
+use Rattle.session_grammar.specs.declared.logs.LogEntry.TheVariants.{Asked}
 use Rattle.run_record.specs.Openings.{log_of}
 use Rattle.run_record.specs.declared.records.Act.{Act}
 use Rattle.run_record.specs.declared.records.Act.TheVariants.{Send, Take, ByHand, Draw, Serve}
@@ -28,7 +26,7 @@ use Rattle.driver_laws.proofs.Posting.{posted_taken}
 use Rattle.driver_laws.proofs.Starting.{other_acts}
 use Rattle.step_world.specs.Scaffold.Seats.{IsAnswered}
 use Rattle.step_world.specs.Tellings.{Telling}
-use Rattle.step_world.specs.Scaffold.Worlds.{Driving, EachAt, IsProcess, IsTold, Scene, Setting, Stands, WasPosted, awaited_by, awaited_of, has_some, next_actor, record_of, request_in, seat_steps, steps_in, steps_with, ways_of}
+use Rattle.step_world.specs.Scaffold.Worlds.{Driving, EachAt, IsProcess, IsTold, Scene, Setting, Stands, WasPosted, awaited_of, has_some, next_actor, record_of, request_in, seat_steps, steps_in, steps_with, ways_of}
 use Rattle.step_world.specs.declared.processes.DiskProcess.{DiskProcess}
 use Rattle.step_world.specs.declared.seats.Seat.{Seat}
 use Rattle.step_world.proofs.Acting.{next_scene, session_acts}

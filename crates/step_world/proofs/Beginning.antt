@@ -1,5 +1,5 @@
 -- A run begins with nothing done.
-use Rattle.std.proofs.Common.{◌≡◌, ◌≤◌, ◌<◌, ◌-◌, ℕ, zero, suc, List, [], ◌∷◌, ◌++◌, length, map, Option, Some, None, Bool, true, false, refl, ap, sym, ◌∙◌, subst, arith}
+use Rattle.std.proofs.Common.{◌≡◌, ◌≤◌, ◌-◌, ℕ, zero, suc, List, [], ◌∷◌, ◌++◌, length, map, Option, Some, None, Bool, false, refl, ap, sym, ◌∙◌, subst, arith}
 use Rattle.std.specs.Prelude.{if◌then◌else◌, option_map, slice_get, unwrap_or}
 use Rattle.std.specs.List.{AllZip}
 use Rattle.std.proofs.lemmas.List.{length-map}
@@ -7,12 +7,12 @@ use Rattle.std.proofs.lemmas.Option.{same_Some}
 use Rattle.sql_base.specs.Scripts.{IsScript, Lies}
 use Rattle.sql_base.specs.declared.scripts.Script.{Script}
 use Rattle.partition_state.specs.State.{State}
-use Rattle.session_grammar.specs.UnderWay.{Asks, Awaiting, Sending, UnderWay}
+use Rattle.session_grammar.specs.UnderWay.{Asks, Sending, UnderWay}
 use Rattle.requester_fs.specs.Asking.{Asking}
-use Rattle.run_record.specs.Openings.{history_of, log_of, openings}
+use Rattle.run_record.specs.Openings.{openings}
 use Rattle.run_record.specs.declared.records.RunRecord.{RunRecord}
 use Rattle.record_laws.specs.SoFar.{LegalSoFar, way_of}
-use Rattle.driver_laws.specs.Carrying.{IsCarried, sendings}
+use Rattle.driver_laws.specs.Carrying.{sendings}
 use Rattle.driver_laws.specs.Moves.{nothing_yet}
 use Rattle.driver_laws.specs.Scheduling.{ScheduledSoFar, mail_after, posted_of, steps_of}
 use Rattle.driver_laws.proofs.Starting.{begun}

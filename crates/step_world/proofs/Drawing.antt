@@ -1,5 +1,5 @@
 -- A session draws its commit.
-use Rattle.std.proofs.Common.{◌≡◌, ◌≢◌, ◌≤◌, ◌<◌, ◌-◌, ◌+◌, ℕ, zero, suc, List, [], ◌∷◌, ◌++◌, length, map, max, Option, Some, None, Bool, true, false, cond, refl, ap, sym, ◌∙◌, subst, arith}
+use Rattle.std.proofs.Common.{◌≡◌, ◌≢◌, ◌≤◌, ◌-◌, ℕ, suc, List, [], ◌∷◌, ◌++◌, length, map, Some, None, Bool, false, cond, refl, ap, sym, ◌∙◌, subst, arith}
 use Rattle.std.specs.Prelude.{Contains, option_map, slice_get, slice_set}
 use Rattle.std.specs.List.{AllByRecursion}
 use Rattle.std.proofs.lemmas.Bool.{eq-eqb}
@@ -27,7 +27,7 @@ use Rattle.record_laws.proofs.Counting.{stamps_count}
 use Rattle.record_laws.proofs.Drawing.{not_drawn}
 use Rattle.driver_laws.specs.Carrying.{IsCarried, passages_of}
 use Rattle.driver_laws.specs.Moves.{IsPosted, next_drawn, with_acts, with_drawn, with_log, with_way}
-use Rattle.driver_laws.specs.Scheduling.{Adds, Awaited, OfSession, awaited, awaits}
+use Rattle.driver_laws.specs.Scheduling.{Adds, OfSession, awaited, awaits}
 use Rattle.driver_laws.proofs.Adding.{adds_draw}
 use Rattle.driver_laws.proofs.Carrying.{carried_drawn, passages_more}
 use Rattle.driver_laws.proofs.Moving.{drawn}

@@ -1,23 +1,17 @@
 -- From what calls ensure to what an action keeps.
-use Rattle.std.proofs.Common.{◌≡◌, ◌≤◌, ◌<◌, ◌++◌, ℕ, zero, suc, List, [], ◌∷◌, length, map, get_or, Option, Some, None, Ok, Err, Bool, true, false, refl, ap, sym, ◌∙◌, subst, arith}
+use Rattle.std.proofs.Common.{◌≡◌, ◌<◌, ℕ, zero, suc, List, [], ◌∷◌, length, map, get_or, Some, Ok, Err, false, refl, ap, sym, ◌∙◌, subst, arith}
 use Rattle.std.specs.Prelude.{Result, OnOk, ◌==◌, slice_get, slice_set}
-use Rattle.std.specs.List.{AllByRecursion, AllZip}
-use Rattle.std.proofs.lemmas.Bool.{eqb-false, eqb-true}
+use Rattle.std.specs.List.{AllByRecursion}
+use Rattle.std.proofs.lemmas.Bool.{eqb-false}
 use Rattle.std.proofs.lemmas.Option.{slice_get_within}
 use Rattle.std.proofs.lemmas.List.{length-map}
-use Rattle.outside.specs.declared.wire.Passage.{Passage}
-use Rattle.commit_journal.specs.declared.Drawn.{Drawn}
-use Rattle.dp_messages.specs.Spelling.{IsEnvelope}
-use Rattle.dp_messages.specs.declared.requests.Envelope.{Envelope}
-use Rattle.requester_fs.specs.Asking.{Asking, next_at}
+use Rattle.requester_fs.specs.Asking.{Asking}
 use Rattle.session_grammar.specs.Sessions.{MayCome}
 use Rattle.session_grammar.specs.UnderWay.{Sending}
 use Rattle.session_grammar.specs.declared.logs.Answer.TheVariants.{PathFailed}
 use Rattle.session_grammar.specs.declared.logs.LogEntry.{LogEntry}
-use Rattle.run_record.specs.declared.records.Act.{Act}
 use Rattle.step_world.specs.Scaffold.Seats.{IsOut, MayFail}
 use Rattle.step_world.specs.Scaffold.Worlds.{AreLater, IsLater, Scene, Stands}
-use Rattle.step_world.specs.declared.processes.DiskProcess.{DiskProcess}
 use Rattle.step_world.specs.declared.seats.Outgoing.{Outgoing}
 use Rattle.step_world.specs.declared.seats.Seat.{Seat}
 

@@ -1,7 +1,7 @@
 -- A session serves the End itself that its path lost four times.
-use Rattle.std.proofs.Common.{◌≡◌, ◌≢◌, ◌≤◌, ◌<◌, ℕ, zero, suc, List, [], ◌∷◌, ◌++◌, length, map, get_or, replicate, Option, Some, None, Bool, true, false, cond, refl, ap, sym, ◌∙◌, subst, arith, inl, inr}
-use Rattle.std.specs.Prelude.{Contains, ◌==◌, ◌⊎◌, nat_lt, slice_get, slice_set}
-use Rattle.std.specs.List.{AllByRecursion, AllZip, list_any}
+use Rattle.std.proofs.Common.{◌≡◌, ◌≤◌, ◌<◌, ℕ, zero, suc, List, [], ◌∷◌, ◌++◌, length, map, replicate, Some, None, Bool, true, false, cond, refl, ap, sym, ◌∙◌, subst, arith, inl, inr}
+use Rattle.std.specs.Prelude.{Contains, nat_lt, slice_get, slice_set}
+use Rattle.std.specs.List.{AllZip}
 use Rattle.std.proofs.lemmas.Bool.{eq-eqb, eqb-true}
 use Rattle.std.proofs.lemmas.List.{append-nil, length-map}
 use Rattle.std.proofs.lemmas.List.Elements.{Contains-append_right}
@@ -11,14 +11,14 @@ use Rattle.dp_messages.specs.Spelling.{IsReply}
 use Rattle.dp_messages.specs.declared.replies.Reply.{Reply as PartitionReply}
 use Rattle.partition_core.specs.Kept.{Kept, entry_of, opener_in, served}
 use Rattle.partition_core.proofs.KeptReplies.{kept_reply}
-use Rattle.partition_state.specs.State.{Opener, State, opener_of}
+use Rattle.partition_state.specs.State.{Opener, State}
 use Rattle.partition_state.specs.declared.entries.Entry.{Entry}
 use Rattle.plans_laws.proofs.SpelledHistories.{histories_spelled}
 use Rattle.plans_laws.proofs.Suiting.{plans_suit}
 use Rattle.requester_fs.specs.Asking.{Asking, next_at}
 use Rattle.session_grammar.specs.Rows.{fits, is_end}
 use Rattle.session_grammar.specs.Sessions.{MayCome}
-use Rattle.session_grammar.specs.UnderWay.{Awaiting, IsOpen, Sending, TakesAnswer, UnderWay}
+use Rattle.session_grammar.specs.UnderWay.{Awaiting, IsOpen, TakesAnswer, UnderWay}
 use Rattle.session_grammar.specs.declared.logs.Answer.TheVariants.{Reply}
 use Rattle.session_grammar.specs.declared.logs.LogEntry.{LogEntry}
 use Rattle.session_grammar.specs.declared.logs.LogEntry.TheVariants.{Asked}
@@ -27,7 +27,6 @@ use Rattle.run_record.specs.declared.records.Act.{Act}
 use Rattle.run_record.specs.declared.records.Act.TheVariants.{ByHand}
 use Rattle.run_record.specs.declared.records.RunRecord.{RunRecord}
 use Rattle.record_laws.specs.SoFar.{LegalSoFar, way_of}
-use Rattle.driver_laws.specs.Carrying.{carried_after}
 use Rattle.driver_laws.specs.Moves.{IsPosted, MayAnswer, with_acts, with_entry, with_log, with_way}
 use Rattle.driver_laws.specs.Scheduling.{Adds, Lost, OfSession, mail_after}
 use Rattle.driver_laws.proofs.Adding.{adds_hand_new, adds_hand_old}
@@ -38,7 +37,7 @@ use Rattle.driver_laws.proofs.Starting.{by_hand}
 use Rattle.step_world.specs.Scaffold.Mails.{CanReply, Handles}
 use Rattle.step_world.specs.Scaffold.Seats.{IsAnswered, turn_of}
 use Rattle.step_world.specs.Tellings.{Telling}
-use Rattle.step_world.specs.Scaffold.Worlds.{Driving, EachAt, IsMessage, IsProcess, Scene, Setting, next_actor, record_of, request_in, seat_steps, sendings_so_far, steps_in, steps_with, ways_of}
+use Rattle.step_world.specs.Scaffold.Worlds.{Driving, EachAt, IsMessage, IsProcess, Scene, Setting, next_actor, record_of, request_in, steps_in, steps_with, ways_of}
 use Rattle.step_world.specs.declared.processes.DiskProcess.{DiskProcess}
 use Rattle.step_world.specs.declared.seats.Seat.{Seat}
 use Rattle.step_world.specs.declared.seats.Turn.TheVariants as turn
@@ -47,7 +46,7 @@ use Rattle.step_world.proofs.Answering.{answered_on, log_is, log_now, many, no_s
 use Rattle.step_world.proofs.Handled.{came_on, histories_on, is_next, replayed_on, unmarked_on}
 use Rattle.step_world.proofs.Opened.{OpenSeat, is_posted, lies_at, turn_hand, way_at}
 use Rattle.step_world.proofs.Places.{each_set, get_set_same, map_set_same}
-use Rattle.step_world.proofs.Replies.{all_in, fits_it, history_is, may_answer, now_is, opener_is, spelled_it, unmarked_at, within_histories}
+use Rattle.step_world.proofs.Replies.{all_in, fits_it, may_answer, opener_is, spelled_it, unmarked_at, within_histories}
 use Rattle.step_world.proofs.Staying.{mail_on, mail_one, process_stays}
 use Rattle.step_world.proofs.Taking.{told_answered}
 

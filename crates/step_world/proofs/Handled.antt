@@ -1,8 +1,6 @@
 -- What a request does to the history of a partition.
-use Rattle.std.proofs.Common.{◌≡◌, ◌≢◌, ◌≤◌, ◌<◌, ◌-◌, ◌+◌, ℕ, zero, suc, List, [], ◌∷◌, ◌++◌, length, map, replicate, Option, Some, None, Bool, true, false, refl, ap, sym, ◌∙◌, subst, arith}
+use Rattle.std.proofs.Common.{◌≡◌, ◌<◌, ◌-◌, ℕ, zero, suc, List, [], ◌∷◌, ◌++◌, map, replicate, Option, Some, refl, ap, sym, ◌∙◌, subst}
 use Rattle.std.specs.Prelude.{slice_get, slice_set}
-use Rattle.std.specs.List.{AllByRecursion}
-use Rattle.sql_base.specs.Scripts.{Lies}
 use Rattle.dp_messages.specs.Spelling.{IsEnvelope}
 use Rattle.dp_messages.specs.declared.requests.Request.{Request}
 use Rattle.partition_core.specs.Kept.{IsReplayed, Kept, entry_of, opener_in, served}
@@ -12,7 +10,6 @@ use Rattle.partition_state.specs.Step.{Stepped, step}
 use Rattle.partition_state.specs.declared.entries.Entry.{Entry}
 use Rattle.partition_state.proofs.Replays.{IsLegal-push, replay-push, step-new}
 use Rattle.plans_laws.specs.Spelled.{CameSpelled}
-use Rattle.run_record.specs.Openings.{history_of, openings}
 use Rattle.driver_laws.specs.Moves.{IsNext, with_entry}
 use Rattle.step_world.specs.Tellings.{Telling}
 use Rattle.step_world.specs.Scaffold.Worlds.{Driving, Scene, Setting, record_of}

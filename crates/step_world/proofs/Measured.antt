@@ -7,15 +7,15 @@ use Rattle.outside.specs.declared.wire.Passage.TheVariants.{Carry, Repeat, LoseR
 use Rattle.dp_messages.specs.declared.replies.Reply.{Reply as PartitionReply}
 use Rattle.requester_fs.specs.Asking.{Advances, Asking, next_at}
 use Rattle.session_grammar.specs.Rows.{fits, is_end}
-use Rattle.session_grammar.specs.Sessions.{Draws, Ends, Next, Sends}
+use Rattle.session_grammar.specs.Sessions.{Next}
 use Rattle.session_grammar.specs.UnderWay.{Sending}
 use Rattle.session_grammar.specs.declared.logs.Answer.{Answer}
-use Rattle.session_grammar.specs.declared.logs.Answer.TheVariants.{PathFailed, Reply}
+use Rattle.session_grammar.specs.declared.logs.Answer.TheVariants.{Reply}
 use Rattle.ending_laws.specs.Keys.{above_in, keys_count}
-use Rattle.ending_laws.specs.Measures.{run_left, session_left}
+use Rattle.ending_laws.specs.Measures.{run_left}
 use Rattle.ending_laws.proofs.Acts.{by_hand_falls, ends_advance, serving_falls, taking_falls}
 use Rattle.ending_laws.proofs.Advancing.{few_above, redrives_advance}
-use Rattle.ending_laws.proofs.Measures.{runs_fall, sendings_fall}
+use Rattle.ending_laws.proofs.Measures.{runs_fall}
 use Rattle.step_world.specs.Scaffold.Mails.{TakesOldest, copies_of}
 use Rattle.step_world.specs.Scaffold.Measures.{Spends, mail_left, seat_left}
 use Rattle.step_world.specs.Scaffold.Seats.{IsAnswered, seen}

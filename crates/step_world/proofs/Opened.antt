@@ -1,7 +1,6 @@
 -- What a session with a request under way is known to be.
-use Rattle.std.proofs.Common.{◌≡◌, ◌≢◌, ◌≤◌, ◌<◌, ◌-◌, ◌+◌, ℕ, zero, suc, List, [], ◌∷◌, ◌++◌, length, map, max, get_or, Option, Some, None, Bool, true, false, cond, refl, ap, sym, ◌∙◌, subst, arith}
-use Rattle.std.specs.Prelude.{Contains, ◌==◌, option_map, slice_get, unwrap_or}
-use Rattle.std.specs.List.{AllByRecursion}
+use Rattle.std.proofs.Common.{◌≡◌, ◌≢◌, ◌<◌, ◌-◌, ℕ, zero, suc, List, [], ◌∷◌, ◌++◌, length, map, max, get_or, Option, Some, Bool, true, false, cond, refl, ap, sym, ◌∙◌, subst, arith}
+use Rattle.std.specs.Prelude.{Contains, ◌==◌, slice_get, unwrap_or}
 use Rattle.std.proofs.lemmas.List.Elements.{Contains-append_right}
 use Rattle.std.proofs.lemmas.Option.{slice_get_within}
 use Rattle.std.proofs.lemmas.List.{length-map}
@@ -10,24 +9,23 @@ use Rattle.sql_base.specs.Scripts.{Lies, parts_of}
 use Rattle.sql_base.specs.declared.lock_names.TxnName.{TxnName}
 use Rattle.dp_messages.specs.Spelling.{IsEnvelope}
 use Rattle.dp_messages.specs.declared.requests.Request.{Request}
-use Rattle.requester_fs.specs.Asking.{AreSendable, Asking, IsAsking, IsSendable, next_at, next_send, places_of}
+use Rattle.requester_fs.specs.Asking.{AreSendable, Asking, IsAsking, IsSendable, next_at, places_of}
 use Rattle.session_grammar.specs.Sessions.{Draws, Ends, Next, Sends}
 use Rattle.session_grammar.specs.UnderWay.{Awaiting, Drawing, Sending, UnderWay, unanswered}
 use Rattle.session_grammar.specs.declared.logs.Answer.TheVariants.{PathFailed}
 use Rattle.session_grammar.specs.declared.logs.LogEntry.{LogEntry}
-use Rattle.session_grammar.specs.declared.logs.LogEntry.TheVariants.{Asked, Drew}
+use Rattle.session_grammar.specs.declared.logs.LogEntry.TheVariants.{Asked}
 use Rattle.run_record.specs.Openings.{log_of}
 use Rattle.run_record.specs.declared.records.RunRecord.{RunRecord}
 use Rattle.record_laws.specs.SoFar.{way_of}
-use Rattle.driver_laws.specs.Moves.{IsPosted, asked_so_far}
+use Rattle.driver_laws.specs.Moves.{IsPosted}
 use Rattle.record_laws.proofs.FiveFacts.{as_many}
-use Rattle.step_world.specs.Scaffold.Seats.{HasRequest, IsOut, IsSending, turn_of, turn_to, turn_with}
+use Rattle.step_world.specs.Scaffold.Seats.{HasRequest, IsOut, IsSending, turn_of, turn_to}
 use Rattle.step_world.specs.declared.processes.DiskProcess.{DiskProcess}
 use Rattle.step_world.specs.declared.seats.Outgoing.{Outgoing}
 use Rattle.step_world.specs.Scaffold.Worlds.{Driving, Scene, Setting, Stands, record_of, request_in, ways_of}
 use Rattle.step_world.specs.declared.seats.Seat.{Seat}
-use Rattle.step_world.specs.declared.seats.Turn.{Turn}
-use Rattle.step_world.specs.declared.seats.Turn.TheVariants.{Send, Take, ServeByHand, Draw, Wait, Rest}
+use Rattle.step_world.specs.declared.seats.Turn.TheVariants.{Send, Take, ServeByHand, Wait}
 use Rattle.step_world.specs.Tellings.{HasTold, Telling}
 use Rattle.step_world.proofs.Places.{get_map, get_set_other}
 

@@ -1,7 +1,7 @@
 -- What a partition keeps for a session.
-use Rattle.std.proofs.Common.{◌≡◌, ◌≤◌, ◌<◌, ◌-◌, ◌+◌, ℕ, zero, suc, List, [], ◌∷◌, ◌++◌, length, map, get_or, replicate, Option, Some, None, Bool, true, false, cond, refl, ap, sym, ◌∙◌, subst, arith}
+use Rattle.std.proofs.Common.{◌≡◌, ◌≤◌, ◌<◌, ◌-◌, ℕ, zero, suc, List, [], ◌∷◌, length, get_or, Option, Some, None, Bool, true, false, cond, refl, ap, sym, ◌∙◌, subst, arith}
 use Rattle.std.specs.Prelude.{Contains, slice_get, unwrap_or}
-use Rattle.std.specs.List.{AllByRecursion, list_any}
+use Rattle.std.specs.List.{AllByRecursion}
 use Rattle.std.proofs.lemmas.List.{length-map}
 use Rattle.std.proofs.lemmas.Option.{slice_get_within}
 use Rattle.sql_base.specs.Scripts.{Lies}
@@ -15,15 +15,15 @@ use Rattle.plans_laws.proofs.SpelledHistories.{histories_spelled}
 use Rattle.plans_laws.proofs.Suiting.{plans_suit}
 use Rattle.requester_fs.specs.Asking.{Asking, next_at}
 use Rattle.session_grammar.specs.Rows.{fits, is_end}
-use Rattle.session_grammar.specs.Sessions.{MayCome, Sends}
-use Rattle.session_grammar.specs.UnderWay.{Awaiting, IsOpen, Sending}
+use Rattle.session_grammar.specs.Sessions.{MayCome}
+use Rattle.session_grammar.specs.UnderWay.{Awaiting, IsOpen}
 use Rattle.session_grammar.specs.declared.logs.Answer.TheVariants.{Reply}
 use Rattle.run_record.specs.Openings.{history_of}
 use Rattle.record_laws.specs.SoFar.{way_of}
 use Rattle.driver_laws.specs.Moves.{MayAnswer}
 use Rattle.driver_laws.proofs.Picking.{answer_fits, picked}
 use Rattle.driver_laws.proofs.Waiting.{reply_is_kept}
-use Rattle.step_world.specs.Scaffold.Worlds.{Driving, IsProcess, Scene, Setting, live_in, record_of, request_in, steps_in, ways_of}
+use Rattle.step_world.specs.Scaffold.Worlds.{Driving, Scene, Setting, live_in, record_of, request_in, steps_in, ways_of}
 use Rattle.step_world.specs.Tellings.{Telling}
 use Rattle.step_world.specs.declared.processes.DiskProcess.{DiskProcess}
 use Rattle.step_world.specs.declared.seats.Seat.{Seat}

@@ -1,6 +1,6 @@
 -- The sessions of a script, one after the other.
-use Rattle.std.proofs.Common.{◌≡◌, ◌≤◌, ◌<◌, ◌+◌, ◌-◌, ℕ, zero, suc, List, [], ◌∷◌, ◌++◌, length, get_or, Option, Some, None, Ok, Err, IfOk, Result, refl, ap, sym, ◌∙◌, subst, arith}
-use Rattle.std.specs.Prelude.{Contains, slice_get, unwrap_or}
+use Rattle.std.proofs.Common.{◌≡◌, ◌≤◌, ◌<◌, ◌-◌, ℕ, zero, suc, List, [], ◌∷◌, ◌++◌, length, get_or, Option, Some, None, Ok, Err, IfOk, Result, ◌∙◌, subst, arith}
+use Rattle.std.specs.Prelude.{slice_get, unwrap_or}
 use Rattle.std.specs.List.{AllByRecursion, AllZip}
 use Rattle.std.specs.Option.{IsSomeAnd, MatchOption}
 use Rattle.std.proofs.lemmas.Option.{same_Some, slice_get-get_or}
@@ -13,7 +13,7 @@ use Rattle.session_grammar.specs.declared.logs.LogEntry.{LogEntry}
 use Rattle.requester_fs.specs.Asking.{Asking}
 use Rattle.run_record.specs.Openings.{log_of}
 use Rattle.run_record.specs.declared.records.RunRecord.{RunRecord}
-use Rattle.step_world.specs.Runs.{AreNew, IsNew}
+use Rattle.step_world.specs.Runs.{AreNew}
 use Rattle.step_world.specs.Scaffold.Worlds.{EachAt}
 
 -- one more at the end

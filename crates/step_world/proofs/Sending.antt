@@ -1,9 +1,8 @@
 -- A session gives its request to its path.
-use Rattle.std.proofs.Common.{◌≡◌, ◌≢◌, ◌≤◌, ◌<◌, ◌-◌, ◌+◌, ℕ, zero, suc, List, [], ◌∷◌, ◌++◌, length, map, replicate, Option, Some, None, Bool, true, false, cond, refl, ap, sym, ◌∙◌, subst, arith}
-use Rattle.std.specs.Prelude.{Contains, option_map, slice_get, slice_set, unwrap_or}
+use Rattle.std.proofs.Common.{◌≡◌, ℕ, suc, List, [], ◌∷◌, ◌++◌, length, map, Some, None, Bool, cond, refl, ap, sym, ◌∙◌, subst}
+use Rattle.std.specs.Prelude.{slice_get, slice_set}
 use Rattle.std.specs.List.{AllByRecursion, AllZip}
 use Rattle.std.proofs.lemmas.Bool.{eq-eqb, ne_eqb}
-use Rattle.std.proofs.lemmas.List.{append-nil, append_assoc}
 use Rattle.outside.specs.Wire.{Answers, is_loss}
 use Rattle.outside.specs.declared.wire.Passage.{Passage}
 use Rattle.outside.specs.declared.wire.Passage.TheVariants.{Carry, Repeat, LoseRequest, LoseReply}
@@ -11,28 +10,27 @@ use Rattle.sql_base.specs.Scripts.{Lies}
 use Rattle.sql_base.specs.declared.scripts.Script.{Script}
 use Rattle.dp_messages.specs.Spelling.{IsEnvelope, request_bytes}
 use Rattle.dp_messages.specs.declared.requests.Envelope.{Envelope}
-use Rattle.requester_fs.specs.Asking.{Asking, IsAsking}
+use Rattle.requester_fs.specs.Asking.{Asking}
 use Rattle.session_grammar.specs.UnderWay.{Awaiting, Sending, UnderWay}
 use Rattle.session_grammar.specs.declared.logs.LogEntry.{LogEntry}
-use Rattle.partition_state.specs.declared.entries.Entry.{Entry}
 use Rattle.run_record.specs.declared.records.Act.{Act}
 use Rattle.run_record.specs.declared.records.Act.TheVariants.{Send}
 use Rattle.run_record.specs.declared.records.RunRecord.{RunRecord}
-use Rattle.record_laws.specs.SoFar.{LegalSoFar, way_of}
+use Rattle.record_laws.specs.SoFar.{LegalSoFar}
 use Rattle.driver_laws.specs.Carrying.{IsCarried, passages_of}
 use Rattle.driver_laws.specs.Moves.{IsPosted, with_acts}
-use Rattle.driver_laws.specs.Scheduling.{Adds, Awaited, Lost, OfSession, Posted, Sent, Step, awaited, awaits, copies, mail_after, mailed}
+use Rattle.driver_laws.specs.Scheduling.{Adds, Lost, OfSession, Posted, Sent, Step, awaited, awaits, copies, mail_after}
 use Rattle.driver_laws.proofs.Adding.{adds_send}
 use Rattle.driver_laws.proofs.Carrying.{carried_sent, passages_more}
 use Rattle.driver_laws.proofs.Starting.{other_acts}
 use Rattle.step_world.specs.Scaffold.Mails.{copies_of}
 use Rattle.step_world.specs.Tellings.{HasTold, Telling}
-use Rattle.step_world.specs.Scaffold.Worlds.{Driving, EachAt, IsMessage, IsProcess, IsSeat, IsTold, Scene, Setting, Stands, WasPosted, awaited_by, awaited_of, has_some, next_actor, record_of, request_in, seat_steps, sendings_so_far, steps_in, ways_of}
+use Rattle.step_world.specs.Scaffold.Worlds.{Driving, EachAt, IsMessage, IsProcess, IsTold, Scene, Setting, Stands, WasPosted, awaited_by, awaited_of, has_some, next_actor, record_of, request_in, seat_steps, sendings_so_far, steps_in, ways_of}
 use Rattle.step_world.specs.declared.processes.DiskProcess.{DiskProcess}
 use Rattle.step_world.specs.declared.seats.Seat.{Seat}
 use Rattle.step_world.proofs.Acting.{next_scene, others_stay, own_steps, session_acts}
 use Rattle.step_world.proofs.Opened.{is_posted, lies_at, others_tell, sendable, way_at}
-use Rattle.step_world.proofs.Places.{each_set, fold_one, get_set_other, get_set_same, map_set_same, zip_append}
+use Rattle.step_world.proofs.Places.{each_set, fold_one, get_set_same, map_set_same, zip_append}
 use Rattle.step_world.proofs.Staying.{StillPosted, acts_on, mail_on, mail_one, process_stays, unserved}
 
 -- as many copies of a message as its path carries

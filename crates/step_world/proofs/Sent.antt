@@ -1,9 +1,9 @@
 -- What becomes of a request on its path: the three ways in which a sending goes on.
-use Rattle.std.proofs.Common.{◌≡◌, ◌≢◌, ◌≤◌, ◌<◌, ◌+◌, ℕ, zero, suc, List, [], ◌∷◌, ◌++◌, length, map, replicate, Option, Some, None, Bool, true, false, cond, refl, ap, sym, ◌∙◌, subst, arith}
-use Rattle.std.specs.Prelude.{nat_lt, ◌||◌, ◌==◌, option_map, slice_get, slice_set}
+use Rattle.std.proofs.Common.{◌≡◌, ◌≤◌, ◌<◌, ◌+◌, ℕ, zero, suc, List, [], ◌∷◌, ◌++◌, length, map, replicate, Some, None, Bool, true, false, cond, refl, ap, sym, ◌∙◌, subst, arith}
+use Rattle.std.specs.Prelude.{nat_lt, ◌||◌, option_map, slice_get, slice_set}
 use Rattle.std.proofs.lemmas.Bool.{eq-eqb}
 use Rattle.std.proofs.lemmas.Bool.Decides.{nat_tests}
-use Rattle.std.proofs.lemmas.List.{append-nil, append_assoc, length-map}
+use Rattle.std.proofs.lemmas.List.{append-nil, length-map}
 use Rattle.std.proofs.lemmas.Option.{slice_get_within}
 use Rattle.outside.specs.Wire.{is_loss}
 use Rattle.outside.specs.declared.wire.Passage.{Passage}
@@ -12,7 +12,7 @@ use Rattle.dp_messages.specs.Spelling.{request_bytes}
 use Rattle.partition_state.specs.declared.entries.Entry.{Entry}
 use Rattle.requester_fs.specs.Asking.{Asking}
 use Rattle.session_grammar.specs.Rows.{is_end}
-use Rattle.session_grammar.specs.UnderWay.{Awaiting, Sending}
+use Rattle.session_grammar.specs.UnderWay.{Sending}
 use Rattle.session_grammar.specs.declared.logs.Answer.{Answer}
 use Rattle.session_grammar.specs.declared.logs.Answer.TheVariants.{PathFailed}
 use Rattle.session_grammar.specs.declared.logs.LogEntry.{LogEntry}
@@ -20,17 +20,16 @@ use Rattle.session_grammar.specs.declared.logs.LogEntry.TheVariants.{Asked}
 use Rattle.run_record.specs.Openings.{log_of}
 use Rattle.run_record.specs.declared.records.Act.{Act}
 use Rattle.run_record.specs.declared.records.Act.TheVariants.{Send}
-use Rattle.run_record.specs.declared.records.RunRecord.{RunRecord}
 use Rattle.record_laws.specs.SoFar.{LegalSoFar}
 use Rattle.driver_laws.specs.Carrying.{IsCarried, carried_after, passages_of}
 use Rattle.driver_laws.specs.Moves.{with_acts, with_log, with_way}
-use Rattle.driver_laws.specs.Scheduling.{Adds, Lost, OfSession, Sent, Step}
+use Rattle.driver_laws.specs.Scheduling.{Adds, Lost, OfSession, Sent}
 use Rattle.driver_laws.proofs.Adding.{adds_failed}
 use Rattle.driver_laws.proofs.Carrying.{carried_taken}
 use Rattle.driver_laws.proofs.Moving.{taken}
 use Rattle.step_world.specs.Scaffold.Seats.{IsAnswered, IsSent, sent_by, turn_of}
 use Rattle.step_world.specs.Tellings.{HasTold, Telling}
-use Rattle.step_world.specs.Scaffold.Worlds.{Driving, EachAt, IsProcess, IsTold, Scene, Setting, Stands, awaited_by, awaited_of, next_actor, record_of, request_in, seat_steps, sendings_so_far, steps_in, steps_with, ways_of}
+use Rattle.step_world.specs.Scaffold.Worlds.{Driving, EachAt, IsProcess, IsTold, Scene, Setting, awaited_of, next_actor, record_of, request_in, seat_steps, sendings_so_far, steps_in, steps_with, ways_of}
 use Rattle.step_world.specs.declared.processes.DiskProcess.{DiskProcess}
 use Rattle.step_world.specs.declared.seats.Seat.{Seat}
 use Rattle.step_world.specs.declared.seats.Turn.TheVariants as turn

@@ -1,12 +1,12 @@
 -- A partition serves the oldest message of its mail.
-use Rattle.std.proofs.Common.{◌≡◌, ◌≢◌, ◌≤◌, ◌<◌, ◌-◌, ◌+◌, ℕ, zero, suc, List, [], ◌∷◌, ◌++◌, length, map, take, drop, replicate, Option, Some, None, Bool, true, false, cond, refl, ap, sym, ◌∙◌, subst, arith, inl, inr}
-use Rattle.std.specs.Prelude.{◌||◌, ◌&&◌, ◌==◌, ◌⊎◌, option_map, slice_get, slice_set, unwrap_or}
+use Rattle.std.proofs.Common.{◌≡◌, ◌≢◌, ◌≤◌, ◌<◌, ℕ, zero, suc, List, [], ◌∷◌, ◌++◌, length, map, take, drop, Option, Some, None, Bool, true, false, cond, refl, ap, sym, ◌∙◌, subst, arith, inl, inr}
+use Rattle.std.specs.Prelude.{◌||◌, ◌&&◌, ◌==◌, option_map, slice_get, slice_set, unwrap_or}
 use Rattle.std.specs.List.{AllByRecursion, AllZip, list_any}
 use Rattle.std.proofs.lemmas.Bool.{eq-eqb, ne_eqb}
 use Rattle.std.proofs.lemmas.List.{append-nil}
 use Rattle.outside.specs.declared.wire.Passage.{Passage}
 use Rattle.sql_base.specs.Scripts.{Lies}
-use Rattle.dp_messages.specs.Spelling.{IsEnvelope, request_bytes}
+use Rattle.dp_messages.specs.Spelling.{request_bytes}
 use Rattle.dp_messages.specs.declared.requests.Envelope.{Envelope}
 use Rattle.dp_messages.specs.declared.requests.Request.{Request}
 use Rattle.dp_messages.proofs.Meanings.{one_envelope}
@@ -14,15 +14,14 @@ use Rattle.partition_core.specs.Kept.{Kept, entry_of, opener_in, served}
 use Rattle.partition_state.specs.State.{Opener}
 use Rattle.partition_state.specs.declared.entries.Entry.{Entry}
 use Rattle.requester_fs.specs.Asking.{Asking, next_at}
-use Rattle.session_grammar.specs.Sessions.{Next, Sends}
+use Rattle.session_grammar.specs.Sessions.{Sends}
 use Rattle.session_grammar.specs.UnderWay.{Awaiting, Drawing, Sending, UnderWay}
-use Rattle.session_grammar.specs.declared.logs.LogEntry.{LogEntry}
 use Rattle.run_record.specs.declared.records.Act.{Act}
 use Rattle.run_record.specs.declared.records.Act.TheVariants.{Serve}
 use Rattle.run_record.specs.declared.records.RunRecord.{RunRecord}
 use Rattle.record_laws.specs.SoFar.{LegalSoFar}
 use Rattle.driver_laws.specs.Moves.{IsPosted, with_acts, with_entry}
-use Rattle.driver_laws.specs.Scheduling.{Adds, Awaited, OfPartition, Posted, awaits, is_old, is_serve_of, mail_after, posted_of}
+use Rattle.driver_laws.specs.Scheduling.{Adds, Awaited, OfPartition, Posted, awaits, is_serve_of, mail_after}
 use Rattle.driver_laws.proofs.Adding.{adds_serve_new, adds_serve_old}
 use Rattle.driver_laws.proofs.Moving.{later, served as served_so_far}
 use Rattle.driver_laws.specs.Carrying.{IsCarried, passages_of}
@@ -30,7 +29,7 @@ use Rattle.driver_laws.proofs.Carrying.{passages_more}
 use Rattle.driver_laws.proofs.Picking.{served_before}
 use Rattle.driver_laws.proofs.Scheduling.{acts_more}
 use Rattle.driver_laws.proofs.Starting.{other_acts}
-use Rattle.step_world.specs.Scaffold.Mails.{Handles, TakesOldest}
+use Rattle.step_world.specs.Scaffold.Mails.{TakesOldest}
 use Rattle.step_world.specs.Scaffold.Seats.{is_open, served_at}
 use Rattle.step_world.specs.Tellings.{Telling}
 use Rattle.step_world.specs.Scaffold.Worlds.{Driving, EachAt, IsMessage, IsProcess, IsSeat, Scene, Setting, WasPosted, awaited_of, has_some, live_in, next_actor, record_of, request_in, seat_steps, sendings_so_far, steps_in, ways_of}

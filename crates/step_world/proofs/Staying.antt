@@ -1,5 +1,5 @@
 -- Sessions that don't act, and partitions whose mail an act doesn't touch.
-use Rattle.std.proofs.Common.{◌≡◌, ◌≢◌, ◌+◌, ℕ, zero, suc, List, [], ◌∷◌, ◌++◌, length, map, Option, Some, None, Bool, true, false, refl, ap, sym, ◌∙◌, subst, arith}
+use Rattle.std.proofs.Common.{◌≡◌, ◌≢◌, ℕ, suc, List, [], ◌∷◌, ◌++◌, length, Option, None, Bool, true, false, refl, ap, sym, ◌∙◌, subst}
 use Rattle.std.specs.Prelude.{◌||◌, ◌==◌, slice_get}
 use Rattle.std.specs.List.{AllByRecursion, AllZip, list_any}
 use Rattle.std.proofs.lemmas.List.{append-nil}
@@ -9,7 +9,7 @@ use Rattle.sql_base.specs.Scripts.{Lies}
 use Rattle.sql_base.specs.declared.scripts.Script.{Script}
 use Rattle.dp_messages.specs.declared.requests.Request.{Request}
 use Rattle.requester_fs.specs.Asking.{Asking}
-use Rattle.session_grammar.specs.UnderWay.{Sending, UnderWay}
+use Rattle.session_grammar.specs.UnderWay.{UnderWay}
 use Rattle.run_record.specs.declared.records.Act.{Act}
 use Rattle.run_record.specs.declared.records.Act.TheVariants.{Send, Take, ByHand, Draw, Serve}
 use Rattle.run_record.specs.declared.records.RunRecord.{RunRecord}
@@ -18,7 +18,7 @@ use Rattle.driver_laws.specs.Moves.{IsPosted}
 use Rattle.driver_laws.specs.Scheduling.{Awaited, OfSession, Posted, actor_of, awaited, awaits, is_act_of, is_by, is_serve_of, mail_after, mailed}
 use Rattle.driver_laws.proofs.Carrying.{passages_more}
 use Rattle.step_world.specs.Tellings.{Telling}
-use Rattle.step_world.specs.Scaffold.Worlds.{IsMessage, IsProcess, IsSeat, IsTold, Setting, WasPosted, awaited_of, request_in, sendings_so_far}
+use Rattle.step_world.specs.Scaffold.Worlds.{IsMessage, IsProcess, IsSeat, Setting, WasPosted, awaited_of, sendings_so_far}
 use Rattle.step_world.specs.declared.processes.DiskProcess.{DiskProcess}
 use Rattle.step_world.specs.declared.seats.Seat.{Seat}
 use Rattle.step_world.proofs.Places.{any_one, fold_one, zip_map}

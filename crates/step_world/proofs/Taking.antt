@@ -1,6 +1,6 @@
 -- A session takes the reply that it waits for.
-use Rattle.std.proofs.Common.{◌≡◌, ◌≢◌, ◌≤◌, ◌<◌, ℕ, zero, suc, List, [], ◌∷◌, ◌++◌, length, replicate, Option, Some, None, Bool, true, false, cond, refl, ap, sym, ◌∙◌, subst, arith}
-use Rattle.std.specs.Prelude.{Contains, nat_lt, slice_get, slice_set}
+use Rattle.std.proofs.Common.{◌≡◌, ◌≤◌, ℕ, zero, suc, List, [], ◌∷◌, ◌++◌, length, replicate, Some, None, Bool, true, false, cond, refl, ap, sym, ◌∙◌, subst, arith}
+use Rattle.std.specs.Prelude.{nat_lt, slice_get, slice_set}
 use Rattle.std.proofs.lemmas.Bool.{eq-eqb}
 use Rattle.std.proofs.lemmas.Bool.Decides.{nat_tests}
 use Rattle.std.proofs.lemmas.List.{append-nil, length-map}
@@ -10,7 +10,7 @@ use Rattle.sql_base.specs.Scripts.{Lies}
 use Rattle.dp_messages.specs.declared.replies.Reply.{Reply as PartitionReply}
 use Rattle.partition_core.specs.Kept.{opener_in}
 use Rattle.requester_fs.specs.Asking.{Asking}
-use Rattle.session_grammar.specs.UnderWay.{Awaiting, Sending}
+use Rattle.session_grammar.specs.UnderWay.{Sending}
 use Rattle.session_grammar.specs.declared.logs.Answer.{Answer}
 use Rattle.session_grammar.specs.declared.logs.Answer.TheVariants.{Reply}
 use Rattle.session_grammar.specs.declared.logs.LogEntry.{LogEntry}
@@ -25,7 +25,7 @@ use Rattle.driver_laws.proofs.Carrying.{carried_taken, passages_more}
 use Rattle.driver_laws.proofs.Moving.{taken}
 use Rattle.step_world.specs.Scaffold.Seats.{IsAnswered, turn_of}
 use Rattle.step_world.specs.Tellings.{Telling}
-use Rattle.step_world.specs.Scaffold.Worlds.{Driving, IsProcess, IsTold, Scene, Setting, next_actor, record_of, request_in, seat_steps, sendings_so_far, steps_in, steps_with, ways_of}
+use Rattle.step_world.specs.Scaffold.Worlds.{Driving, IsProcess, IsTold, Scene, Setting, next_actor, record_of, request_in, sendings_so_far, steps_in, steps_with, ways_of}
 use Rattle.step_world.specs.declared.processes.DiskProcess.{DiskProcess}
 use Rattle.step_world.specs.declared.seats.Seat.{Seat}
 use Rattle.step_world.specs.declared.seats.Turn.TheVariants as turn

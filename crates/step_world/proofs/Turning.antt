@@ -4,22 +4,20 @@ use Rattle.std.specs.Prelude.{◌%◌, ◌==◌, ◌&&◌, if◌then◌else◌, 
 use Rattle.std.specs.List.{AllByRecursion, AllZip, list_any, range_with_len}
 use Rattle.std.proofs.lemmas.List.{length-map}
 use Rattle.std.proofs.lemmas.Nat.{mod_below}
-use Rattle.sql_base.specs.Scripts.{Lies}
 use Rattle.requester_fs.specs.Asking.{Asking, next_at}
 use Rattle.session_grammar.specs.UnderWay.{Awaiting, Drawing, Sending, UnderWay}
 use Rattle.run_record.specs.declared.records.Act.{Act}
-use Rattle.driver_laws.specs.Scheduling.{Actor, Awaited, OfPartition, OfSession, Posted, actors, awaited, chosen_of, is_serve_of, is_served, is_some, is_unfinished, mail_after, may_go}
+use Rattle.driver_laws.specs.Scheduling.{Actor, OfPartition, OfSession, Posted, actors, awaited, chosen_of, is_serve_of, is_served, is_some, is_unfinished, mail_after, may_go}
 use Rattle.step_world.specs.Choosing.{actor_seen, acts_at, has_mail, is_acting, mail_at, some_mail}
 use Rattle.step_world.specs.Runs.{CanAct}
 use Rattle.step_world.specs.Scaffold.Seats.{turn_of, turn_to}
 use Rattle.step_world.specs.Tellings.{Telling}
-use Rattle.step_world.specs.Scaffold.Worlds.{Driving, IsMessage, Scene, Setting, awaited_of, has_some, live_in, next_actor, record_of, request_in, ways_of}
+use Rattle.step_world.specs.Scaffold.Worlds.{Driving, IsMessage, Scene, Setting, awaited_of, has_some, live_in, record_of, request_in, ways_of}
 use Rattle.step_world.specs.declared.choosing.Agent.{Agent}
 use Rattle.step_world.specs.declared.choosing.Agent.TheVariants.{Partition, Session}
 use Rattle.step_world.specs.declared.processes.DiskProcess.{DiskProcess}
 use Rattle.step_world.specs.declared.seats.Seat.{Seat}
-use Rattle.step_world.specs.declared.seats.Turn.{Turn}
-use Rattle.step_world.specs.declared.seats.Turn.TheVariants.{Send, Take, ServeByHand, Draw, Wait, Rest}
+use Rattle.step_world.specs.declared.seats.Turn.TheVariants.{Send, Take, ServeByHand, Wait}
 use Rattle.step_world.proofs.Places.{some_get}
 
 -- a session acts where it has something under way and doesn't wait for a reply that isn't there

@@ -1,6 +1,5 @@
 -- How a run begins, goes on and ends.
 use Rattle.std.specs.Prelude.{◌≡◌, ℕ, suc, ◌-◌, List, [], length, map, slice_get, Some, true, false}
-use Rattle.std.specs.List.{AllZip}
 use Rattle.sql_base.specs.Scripts.{Lies}
 use Rattle.sql_base.specs.declared.scripts.Script.{Script}
 use Rattle.partition_core.specs.Kept.{rows_in}

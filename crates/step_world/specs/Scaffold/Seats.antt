@@ -1,5 +1,5 @@
 -- What a session does next, and what becomes of its seat.
-use Rattle.std.specs.Prelude.{◌≡◌, ◌<◌, ℕ, ◌+◌, ◌++◌, ◌==◌, nat_lt, Bool, true, false, ◌||◌, ◌&&◌, if◌then◌else◌}
+use Rattle.std.specs.Prelude.{◌≡◌, ℕ, ◌+◌, ◌++◌, ◌==◌, nat_lt, Bool, true, false, ◌||◌, ◌&&◌, if◌then◌else◌}
 use Rattle.outside.specs.Wire.{is_loss}
 use Rattle.outside.specs.declared.wire.Passage.{Passage}
 use Rattle.dp_messages.specs.declared.requests.Request.{Request}

@@ -1,7 +1,6 @@
 -- A run between two actions: the sessions and partitions, the journal, and what was done.
-use Rattle.std.specs.Prelude.{◌≡◌, ◌≢◌, ◌≤◌, ◌<◌, ◌⊎◌, ℕ, ◌+◌, zero, suc, List, [], ◌∷◌, ◌++◌, length, map, replicate, slice_get, slice_set, unwrap_or, option_map, Option, Some, None, Bool, true, false, Contains, if◌then◌else◌}
+use Rattle.std.specs.Prelude.{◌≡◌, ◌≢◌, ◌≤◌, ℕ, zero, suc, List, [], ◌∷◌, ◌++◌, length, map, replicate, slice_get, unwrap_or, option_map, Option, Some, None, Bool, true, false, if◌then◌else◌}
 use Rattle.std.specs.List.{AllByRecursion, AllZip, list_any}
-use Rattle.outside.specs.Wire.{Answers}
 use Rattle.outside.specs.declared.wire.Passage.{Passage}
 use Rattle.sql_base.specs.Scripts.{Lies}
 use Rattle.sql_base.specs.declared.scripts.Script.{Script}
@@ -9,7 +8,7 @@ use Rattle.commit_journal.specs.declared.Drawn.{Drawn}
 use Rattle.dp_messages.specs.Spelling.{IsEnvelope, request_bytes}
 use Rattle.dp_messages.specs.declared.requests.Envelope.{Envelope}
 use Rattle.dp_messages.specs.declared.requests.Request.{Request}
-use Rattle.partition_core.specs.Kept.{Kept, IsReplayed, opened_with}
+use Rattle.partition_core.specs.Kept.{IsReplayed}
 use Rattle.session_grammar.specs.Rows.{is_end}
 use Rattle.session_grammar.specs.UnderWay.{Awaiting, Drawing, Sending, UnderWay}
 use Rattle.session_grammar.specs.declared.logs.LogEntry.{LogEntry}
@@ -22,7 +21,7 @@ use Rattle.run_record.specs.declared.records.RunRecord.{RunRecord}
 use Rattle.record_laws.specs.SoFar.{LegalSoFar}
 use Rattle.driver_laws.specs.Carrying.{IsCarried, passages_of}
 use Rattle.driver_laws.specs.Moves.{IsPosted}
-use Rattle.driver_laws.specs.Scheduling.{Actor, Awaited, Lost, OfPartition, OfSession, Posted, ScheduledSoFar, Sent, Step, actors, awaited, chosen_of, is_serve_of, mail_after}
+use Rattle.driver_laws.specs.Scheduling.{Actor, Awaited, Lost, OfSession, Posted, ScheduledSoFar, Sent, Step, actors, awaited, chosen_of, is_serve_of, mail_after}
 use Rattle.step_world.specs.Scaffold.Seats.{seen, turn_of}
 use Rattle.step_world.specs.Tellings.{HasTold, Telling}
 use Rattle.step_world.specs.declared.processes.DiskProcess.{DiskProcess}

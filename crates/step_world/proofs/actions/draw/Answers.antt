@@ -1,5 +1,5 @@
 -- A transaction that draws isn't in the journal.
-use Rattle.std.proofs.Common.{◌≡◌, Err, ap, sym, ◌∙◌}
+use Rattle.std.proofs.Common.{Err, ap, sym, ◌∙◌}
 use Rattle.std.specs.Prelude.{option_map}
 use Rattle.step_world.proofs.actions.draw.Goals as goal
 

@@ -1,4 +1,4 @@
-use Rattle.std.proofs.Common.{◌≡◌, ◌+◌, ℕ, List, map, ap, sym, ◌∙◌, arith, Vec, Global}
+use Rattle.std.proofs.Common.{◌≡◌, ◌+◌, map, ap, sym, ◌∙◌, arith, Vec, Global}
 use Rattle.step_world.specs.Choosing.{acts_at}
 use Rattle.step_world.specs.Scaffold.Seats.{seen}
 use Rattle.step_world.specs.declared.choosing.Agent.{Agent}

@@ -1,5 +1,5 @@
 -- A wire that hears its number tells what it told before.
-use Rattle.std.proofs.Common.{◌≡◌, ◌<◌, length, map, rules, ◌∙◌}
+use Rattle.std.proofs.Common.{◌<◌, length, rules, ◌∙◌}
 use Rattle.step_world.proofs.Handed.{process_at}
 use Rattle.step_world.proofs.Places.{map_set_same}
 use Rattle.step_world.proofs.driver.+start_from.Goals as goal

@@ -1,12 +1,8 @@
 -- What a session does next goes on as its action says, and it does something.
-use Rattle.std.proofs.Common.{◌≡◌, ℕ, suc, List, map, Option, Some, None, Bool, true, false, refl, ap, sym, ◌∙◌, subst, arith, inl, inr}
-use Rattle.std.specs.Prelude.{◌⊎◌, option_map, slice_get, unwrap_or}
-use Rattle.requester_fs.specs.Asking.{Asking}
+use Rattle.std.proofs.Common.{◌≡◌, suc, true, ap, sym, ◌∙◌, inl, inr}
 use Rattle.driver_laws.specs.Scheduling.{OfSession}
-use Rattle.step_world.specs.Choosing.{acts_at, is_acting}
-use Rattle.step_world.specs.Scaffold.Seats.{seen, turn_of}
-use Rattle.step_world.specs.Scaffold.Worlds.{scene}
-use Rattle.step_world.specs.declared.seats.Seat.{Seat}
+use Rattle.step_world.specs.Choosing.{is_acting}
+use Rattle.step_world.specs.Scaffold.Seats.{seen}
 use Rattle.step_world.specs.declared.seats.Turn.{Turn}
 use Rattle.step_world.specs.declared.seats.Turn.TheVariants.{Wait, Rest}
 use Rattle.step_world.proofs.Chosen.{acting_seat, from_same, from_told}

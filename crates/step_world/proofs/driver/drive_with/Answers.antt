@@ -1,13 +1,9 @@
 -- The run begins, goes on with each turn, and is over where nobody is enabled.
-use Rattle.std.proofs.Common.{◌≡◌, ◌≤◌, List, length, map, sym, ap, ◌∙◌, subst, arith, rules}
-use Rattle.std.specs.Prelude.{IfOk}
-use Rattle.std.specs.List.{AllZip}
-use Rattle.std.proofs.lemmas.List.{length-map}
+use Rattle.std.proofs.Common.{◌≤◌, length, sym, subst, arith, rules}
 use Rattle.run_record.specs.Legal.{Legal}
 use Rattle.driver_laws.specs.Scheduling.{Scheduled}
-use Rattle.step_world.specs.Runs.{AllCarried, with_rows}
+use Rattle.step_world.specs.Runs.{with_rows}
 use Rattle.step_world.specs.Scaffold.Worlds.{scene}
-use Rattle.step_world.specs.Scaffold.Seats.{seen}
 use Rattle.step_world.proofs.Over.{all_carried, all_seats, is_legal, is_scheduled}
 use Rattle.step_world.proofs.Running.{all_ended, allowed_first, as_many_told, enough_told, if_ok, many_seats, may_act, nobody_may, of_kept, run_begins, run_goes_on}
 use Rattle.step_world.proofs.driver.drive_with.Goals as goal

@@ -1,5 +1,5 @@
 -- One session more, at its beginning.
-use Rattle.std.proofs.Common.{◌≡◌, ◌+◌, ◌∙◌, List, [], ◌∷◌, ◌++◌, suc, length, ap, arith, sym, subst}
+use Rattle.std.proofs.Common.{◌≡◌, ◌+◌, ◌∙◌, List, suc, length, ap, arith, sym, subst}
 use Rattle.std.proofs.lemmas.List.{length_push}
 use Rattle.requester_fs.specs.Asking.{Asking}
 use Rattle.step_world.specs.Runs.{IsNew}

@@ -1,9 +1,9 @@
 -- A request that was just served, or was served before, is the opener's last.
-use Rattle.std.proofs.Common.{◌≡◌, ◌≤◌, ◌<◌, ◌-◌, ℕ, List, Option, None, ap, sym, subst, ◌∙◌, arith, inl, inr}
-use Rattle.std.specs.Prelude.{◌⊎◌, replicate, slice_get, unwrap_or}
+use Rattle.std.proofs.Common.{◌≡◌, ◌<◌, ◌-◌, ℕ, List, Option, None, ap, subst, ◌∙◌, arith, inl, inr}
+use Rattle.std.specs.Prelude.{slice_get, unwrap_or}
 use Rattle.sql_base.specs.Scripts.{Lies}
 use Rattle.dp_messages.specs.declared.requests.Request.{Request}
-use Rattle.partition_core.specs.Kept.{Kept, marked, opener_in, served}
+use Rattle.partition_core.specs.Kept.{Kept, marked, opener_in}
 use Rattle.partition_core.proofs.KeptReplies.{kept_reply}
 use Rattle.partition_state.specs.State.{Opener, opener_of}
 use Rattle.step_world.specs.Scaffold.Mails.{CanReply, Handles}

@@ -1,5 +1,5 @@
 -- The commit that a session draws is the next of the journal, above a floor that is none too high, and the run goes on with it.
-use Rattle.std.proofs.Common.{◌≡◌, ◌<◌, ◌+◌, ◌++◌, ◌∷◌, [], ℕ, suc, List, length, map, max, refl, sym, ap, subst, ◌∙◌, arith, rules, Ok, Err, Some}
+use Rattle.std.proofs.Common.{◌≡◌, ◌<◌, ◌++◌, ◌∷◌, [], ℕ, suc, List, length, refl, sym, ap, subst, ◌∙◌, rules, Ok, Err, Some}
 use Rattle.std.specs.Prelude.{Result, OnOk, slice_get, slice_set}
 use Rattle.sql_base.specs.declared.lock_names.TxnName.{TxnName}
 use Rattle.commit_journal.specs.declared.Drawn.{Drawn}

@@ -1,11 +1,10 @@
 -- The agents that are enabled are the sessions that may act, and then the partitions with mail.
-use Rattle.std.proofs.Common.{◌≡◌, ℕ, List, [], ◌++◌, length, map, ap, sym, ◌∙◌}
+use Rattle.std.proofs.Common.{List, ◌++◌, length, map, ap, ◌∙◌}
 use Rattle.std.specs.Prelude.{filter}
 use Rattle.std.specs.List.{range_with_len}
-use Rattle.driver_laws.specs.Scheduling.{Actor, OfPartition, OfSession, chosen_of}
+use Rattle.driver_laws.specs.Scheduling.{OfPartition, OfSession, chosen_of}
 use Rattle.step_world.specs.Choosing.{actor_seen, acts_at, mail_at}
 use Rattle.step_world.specs.Scaffold.Seats.{seen}
-use Rattle.step_world.specs.declared.choosing.Agent.{Agent}
 use Rattle.step_world.specs.declared.choosing.Agent.TheVariants.{Partition, Session}
 use Rattle.step_world.specs.declared.processes.DiskProcess.{DiskProcess}
 use Rattle.step_world.specs.declared.seats.Seat.{Seat}

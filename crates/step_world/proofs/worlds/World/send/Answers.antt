@@ -1,5 +1,5 @@
 -- A request goes out to a partition that there is, and the run goes on with it.
-use Rattle.std.proofs.Common.{◌≡◌, ◌<◌, ◌++◌, ◌∷◌, [], ℕ, suc, List, length, map, refl, sym, ap, subst, ◌∙◌, arith, rules, Ok, Err, Some}
+use Rattle.std.proofs.Common.{◌≡◌, ◌<◌, ◌++◌, ◌∷◌, [], ℕ, suc, List, length, refl, sym, ap, subst, ◌∙◌, rules, Ok, Err, Some}
 use Rattle.std.specs.Prelude.{Result, OnOk, slice_get, slice_set}
 use Rattle.outside.specs.declared.wire.Passage.{Passage}
 use Rattle.dp_messages.specs.Spelling.{IsEnvelope, request_bytes}

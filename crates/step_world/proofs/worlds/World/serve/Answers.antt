@@ -1,22 +1,19 @@
 -- The message that a partition serves is of a session that there is, and the run goes on with it.
-use Rattle.std.proofs.Common.{◌≡◌, ◌≤◌, ◌<◌, ◌-◌, ◌++◌, ◌∷◌, [], ℕ, suc, List, length, map, refl, sym, ap, subst, ◌∙◌, arith, rules, Some}
-use Rattle.std.specs.Prelude.{slice_get, slice_set}
+use Rattle.std.proofs.Common.{◌≡◌, ◌<◌, ◌-◌, ◌++◌, ◌∷◌, [], ℕ, suc, List, length, map, refl, sym, ap, subst, ◌∙◌, arith, rules, Some}
+use Rattle.std.specs.Prelude.{slice_set}
 use Rattle.std.proofs.lemmas.List.{length-map}
 use Rattle.std.proofs.lemmas.Option.{slice_get_within}
 use Rattle.sql_base.specs.Scripts.{Lies}
 use Rattle.requester_fs.specs.Asking.{Asking}
-use Rattle.run_record.specs.declared.records.Act.{Act}
 use Rattle.run_record.specs.declared.records.Act.TheVariants.{Serve}
-use Rattle.step_world.specs.Scaffold.Mails.{TakesOldest}
 use Rattle.step_world.specs.Scaffold.Seats.{seen, served_at}
 use Rattle.step_world.specs.Tellings.{Telling}
 use Rattle.step_world.specs.Scaffold.Worlds.{Driving, Scene, Setting, scene}
 use Rattle.step_world.specs.declared.processes.DiskProcess.{DiskProcess}
-use Rattle.step_world.specs.declared.processes.Sender.{Sender}
 use Rattle.step_world.specs.declared.seats.Seat.{Seat}
 use Rattle.step_world.proofs.Measured.{served-less}
 use Rattle.step_world.proofs.Handed.{later_same, process_at, same_scene}
-use Rattle.step_world.proofs.Places.{get_map, map_set, some_get}
+use Rattle.step_world.proofs.Places.{get_map, map_set}
 use Rattle.step_world.proofs.Serving.{sender_lies, served_on}
 use Rattle.step_world.proofs.worlds.World.serve.Goals as goal
 

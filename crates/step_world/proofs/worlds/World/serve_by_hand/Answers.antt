@@ -1,12 +1,11 @@
 -- The End that a session serves itself is answered by its partition, and the run goes on with it.
-use Rattle.std.proofs.Common.{◌≡◌, ◌<◌, ◌≤◌, ◌++◌, ◌∷◌, [], ℕ, suc, List, length, map, refl, sym, ap, subst, ◌∙◌, arith, rules, Ok, Err, Some}
+use Rattle.std.proofs.Common.{◌≡◌, ◌<◌, ◌≤◌, ◌++◌, ◌∷◌, [], ℕ, suc, List, length, refl, sym, ap, subst, ◌∙◌, arith, rules, Ok, Err, Some}
 use Rattle.std.specs.Prelude.{Result, OnOk, slice_get, slice_set}
 use Rattle.sql_base.specs.Scripts.{Lies}
 use Rattle.dp_messages.specs.declared.replies.Reply.{Reply as PartitionReply}
 use Rattle.dp_messages.specs.declared.requests.Envelope.{Envelope}
 use Rattle.partition_core.specs.Kept.{opener_in}
 use Rattle.requester_fs.specs.Asking.{Asking}
-use Rattle.session_grammar.specs.UnderWay.{Sending}
 use Rattle.session_grammar.specs.declared.logs.Answer.TheVariants.{Reply}
 use Rattle.run_record.specs.declared.records.Act.{Act}
 use Rattle.run_record.specs.declared.records.Act.TheVariants.{ByHand}

@@ -1,9 +1,8 @@
 -- The reply that a session waits for is kept, and the run goes on with it.
-use Rattle.std.proofs.Common.{◌≡◌, ◌<◌, ◌≤◌, ◌++◌, ◌∷◌, [], ℕ, suc, List, length, map, refl, sym, ap, subst, ◌∙◌, arith, rules, Ok, Err, Some}
+use Rattle.std.proofs.Common.{◌≡◌, ◌<◌, ◌≤◌, ◌++◌, ◌∷◌, [], ℕ, suc, List, length, refl, sym, ap, subst, ◌∙◌, arith, rules, Ok, Err, Some}
 use Rattle.std.specs.Prelude.{Result, OnOk, slice_get, slice_set}
 use Rattle.sql_base.specs.Scripts.{Lies}
 use Rattle.dp_messages.specs.declared.replies.Reply.{Reply as PartitionReply}
-use Rattle.dp_messages.specs.declared.requests.Request.{Request}
 use Rattle.partition_core.specs.Kept.{opener_in}
 use Rattle.requester_fs.specs.Asking.{Asking, next_at}
 use Rattle.session_grammar.specs.Sessions.{Sends}
