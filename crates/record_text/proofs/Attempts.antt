@@ -12,7 +12,6 @@ use Rattle.sql_base.specs.declared.outcomes.Given.{Given}
 use Rattle.sql_base.specs.declared.outcomes.Outcome.{Outcome}
 use Rattle.sql_base.specs.declared.outcomes.Outcome.TheVariants.{Committed, RolledBack, Aborted}
 use Rattle.sql_base.specs.declared.scripts.Work.{Work}
-use Rattle.one_thread.specs.Text.{shown_text}
 use Rattle.one_thread.specs.declared.shown.Shown.{Shown}
 use Rattle.dp_messages.specs.declared.replies.Reply.TheVariants as reply
 use Rattle.dp_messages.specs.declared.requests.Ask.{Ask}
@@ -33,9 +32,12 @@ use Rattle.record_text.proofs.Outcomes.{outcome-read}
 use Rattle.record_text.proofs.PartsRead.{givens-read}
 use Rattle.session_laws.proofs.Loose.{all_on}
 
--- the text of attempts
-abbrev pub texts : List Shown → List ℕ
-texts shown = flat_map shown_text shown
+-- what counts of an attempt: of an aborted one not what its statements gave
+abbrev pub plain : Shown → Shown
+plain shown = record shown { given = given_by shown.outcome shown.given }
+
+abbrev pub plains : List Shown → List Shown
+plains shown = map plain shown
 
 -- an attempt that was not aborted
 abbrev IsDone : Outcome → Type 0
@@ -45,24 +47,23 @@ IsDone outcome = Unit {0}
 abbrev shown_as : ℕ → ℕ → Outcome → List Given → Shown
 shown_as session ordinal outcome given = record { session = session; ordinal = ordinal; outcome = outcome; given = given }
 
--- of an aborted attempt nothing is shown
-text-same : (session ordinal : ℕ) (outcome : Outcome) (read given : List Given) → (IsDone outcome → read ≡ given) → shown_text (shown_as session ordinal outcome (given_by outcome read)) ≡ shown_text (shown_as session ordinal outcome given)
-text-same session ordinal (Committed stamp) read given same = ap (λ (g : List Given). shown_text (shown_as session ordinal (Committed stamp) g)) (same tt)
-text-same session ordinal RolledBack read given same = ap (λ (g : List Given). shown_text (shown_as session ordinal RolledBack g)) (same tt)
-text-same session ordinal (Aborted abort) read given same = refl
+plain-same : (session ordinal : ℕ) (outcome : Outcome) (read given : List Given) → (IsDone outcome → read ≡ given) → plain (shown_as session ordinal outcome (given_by outcome read)) ≡ plain (shown_as session ordinal outcome given)
+plain-same session ordinal (Committed stamp) read given same = ap (λ (g : List Given). plain (shown_as session ordinal (Committed stamp) g)) (same tt)
+plain-same session ordinal RolledBack read given same = ap (λ (g : List Given). plain (shown_as session ordinal RolledBack g)) (same tt)
+plain-same session ordinal (Aborted abort) read given same = refl
 
 -- where it was not, all its parts are whole
 done-whole : (r : Asker) (a : Attempt) (end : Option Abort) (commit : Bool) → IsEnding r a end commit → IsDone a.outcome → end ≡ None
 done-whole r a (Some abort) commit h done = absurd (subst IsDone h.1 done)
 done-whole r a None commit h done = refl
 
-pub attempt-text : (r : Asker) (a : Attempt) → parts_of r.tables ≤ most_parts → IsOwn r a → shown_text (shown_read r a.ordinal a.work (entries_of a)) ≡ shown_text (shown_of r a)
-attempt-text r a few is =
+pub attempt-plain : (r : Asker) (a : Attempt) → parts_of r.tables ≤ most_parts → IsOwn r a → plain (shown_read r a.ordinal a.work (entries_of a)) ≡ plain (shown_of r a)
+attempt-plain r a few is =
     let p = is.parts_and_ending in
     let outcome = outcome-read r a few is in
     let read = givens_read r a.work.statements (entries_of a) in
-    ap (λ (o : Outcome). shown_text (shown_as r.number a.ordinal o (given_by o read))) outcome
-    ∙ text-same r.number a.ordinal a.outcome read (givens_of r a.work.statements a.parts)
+    ap (λ (o : Outcome). plain (shown_as r.number a.ordinal o (given_by o read))) outcome
+    ∙ plain-same r.number a.ordinal a.outcome read (givens_of r a.work.statements a.parts)
     (λ done. givens-read r a.ordinal a.work.statements a.parts a.ending (subst (InTurn (IsPart r a.ordinal) a.work.statements a.parts) (done-whole r a p.0 a.work.commit p.2 done) p.1))
 
 -- each entry of an attempt has its ordinal
@@ -147,8 +148,8 @@ module _ (r : Asker) (few : parts_of r.tables ≤ most_parts) where
   numbered-as : (work : Work) (n : ℕ) (a : Attempt) → IsAttempt IsPart r work n a → AllByRecursion (IsNumbered n) (entries_of a)
   numbered-as work n a h = subst (λ (m : ℕ). AllByRecursion (IsNumbered m) (entries_of a)) h.numbered (attempt-numbered r a (own-of work n a h))
 
-  text-as : (work : Work) (n : ℕ) (a : Attempt) → IsAttempt IsPart r work n a → shown_text (shown_read r n work (entries_of a)) ≡ shown_text (shown_of r a)
-  text-as work n a h = (λ i. shown_text (shown_read r (sym h.numbered i) (sym h.of_work i) (entries_of a))) ∙ attempt-text r a few (own-of work n a h)
+  plain-as : (work : Work) (n : ℕ) (a : Attempt) → IsAttempt IsPart r work n a → plain (shown_read r n work (entries_of a)) ≡ plain (shown_of r a)
+  plain-as work n a h = (λ i. plain (shown_read r (sym h.numbered i) (sym h.of_work i) (entries_of a))) ∙ attempt-plain r a few (own-of work n a h)
 
   outcome-as : (work : Work) (n : ℕ) (a : Attempt) → IsAttempt IsPart r work n a → outcome_of (entries_of a) ≡ a.outcome
   outcome-as work n a h = outcome-read r a few (own-of work n a h)
@@ -163,7 +164,7 @@ module _ (r : Asker) (few : parts_of r.tables ≤ most_parts) where
 
   -- what is read of a transaction's attempts
   record TriesRead (work : Work) (n more : ℕ) (tries : List Attempt) (log rest : List LogEntry) : Type 0 where
-    shows : texts (tries_read r work n more log) ≡ texts (map (shown_of r) tries)
+    shows : plains (tries_read r work n more log) ≡ plains (map (shown_of r) tries)
     many : length (tries_read r work n more log) ≡ length tries
     left : behind_all n (length tries) log ≡ rest
 
@@ -180,16 +181,16 @@ module _ (r : Asker) (few : parts_of r.tables ≤ most_parts) where
       left_is : behind n log ≡ rest
       left_is = ap (behind n) is ∙ behind-is n (entries_of a) rest numbered later
 
-      text : texts (shown_read r n work (own n log) ∷ []) ≡ texts (shown_of r a ∷ [])
-      text = ap (λ (es : List LogEntry). texts (shown_read r n work es ∷ [])) mine ∙ ap (λ (t : List ℕ). t ++ []) (text-as work n a h)
+      mine_is : plains (shown_read r n work (own n log) ∷ []) ≡ plains (shown_of r a ∷ [])
+      mine_is = ap (λ (es : List LogEntry). plains (shown_read r n work es ∷ [])) mine ∙ ap (λ (s : Shown). s ∷ []) (plain-as work n a h)
 
       by : (k : ℕ) → (a.outcome ≡ Aborted LockedOut → k ≡ 0) → TriesRead work n k (a ∷ []) log rest
-      by zero none = record { shows = text; many = refl; left = left_is }
+      by zero none = record { shows = mine_is; many = refl; left = left_is }
       by (suc k) none =
           let stops : is_locked_out (outcome_of (own n log)) ≡ false =
           ap (λ (es : List LogEntry). is_locked_out (outcome_of es)) mine ∙ ap is_locked_out (outcome-as work n a h) ∙ not_locked (is_locked_out a.outcome) refl in
           record {
-            shows = ap (λ b. texts (shown_read r n work (own n log) ∷ cond b (tries_read r work (n + 1) k (behind n log)) [])) stops ∙ text;
+            shows = ap (λ b. plains (shown_read r n work (own n log) ∷ cond b (tries_read r work (n + 1) k (behind n log)) [])) stops ∙ mine_is;
             many = ap (λ b. length (shown_read r n work (own n log) ∷ cond b (tries_read r work (n + 1) k (behind n log)) [])) stops;
             left = left_is;
           }
@@ -219,8 +220,8 @@ module _ (r : Asker) (few : parts_of r.tables ≤ most_parts) where
       let all : tries_read r work n (suc more) log ≡ shown_read r n work (own n log) ∷ tries_read r work (n + 1) more (behind n log) =
       ap (λ c. shown_read r n work (own n log) ∷ cond c (tries_read r work (n + 1) more (behind n log)) []) goes_on in
       record {
-        shows = ap texts all ∙ ap (λ (es : List LogEntry). shown_text (shown_read r n work es) ++ texts (tries_read r work (n + 1) more (behind n log))) mine
-            ∙ (λ i. text-as work n a h.0 i ++ next.shows i);
+        shows = ap plains all ∙ ap (λ (es : List LogEntry). plain (shown_read r n work es) ∷ plains (tries_read r work (n + 1) more (behind n log))) mine
+            ∙ (λ i. plain-as work n a h.0 i ∷ next.shows i);
         many = ap length all ∙ ap suc next.many;
         left = next.left;
       }
@@ -233,16 +234,16 @@ module _ (r : Asker) (few : parts_of r.tables ≤ most_parts) where
       (from-lower (n + length tries) n (flat_map entries_of rest) (omega arith) (attempts-from (n + length tries) works rest more)))
 
   -- what is read of all transactions of a session
-  pub works-read : (n : ℕ) (works : List Work) (attempts : List Attempt) → AreAttempts IsPart r n works attempts → texts (works_read r n works (flat_map entries_of attempts)) ≡ texts (map (shown_of r) attempts)
-  works-read n [] attempts h = sym (ap (λ (xs : List Attempt). texts (map (shown_of r) xs)) h)
+  pub works-read : (n : ℕ) (works : List Work) (attempts : List Attempt) → AreAttempts IsPart r n works attempts → plains (works_read r n works (flat_map entries_of attempts)) ≡ plains (map (shown_of r) attempts)
+  works-read n [] attempts h = sym (ap (λ (xs : List Attempt). plains (map (shown_of r) xs)) h)
   works-read n (work ∷ works) attempts (tries, rest, is, are, more) =
       let log = flat_map entries_of attempts in
       let split : log ≡ flat_map entries_of tries ++ flat_map entries_of rest = ap (flat_map entries_of) is ∙ flat_map-append entries_of tries rest in
       let read = tries-read work n r.limits.restart tries log (flat_map entries_of rest) split are (attempts-from (n + length tries) works rest more) in
       let shown = tries_read r work n r.limits.restart log in
       let left : behind_all n (length shown) log ≡ flat_map entries_of rest = ap (λ k. behind_all n k log) read.many ∙ read.left in
-      flat_map-append shown_text shown (works_read r (n + length shown) works (behind_all n (length shown) log))
-      ∙ (λ i. read.shows i ++ texts (works_read r (n + read.many i) works (left i)))
-      ∙ ap (λ (t : List ℕ). texts (map (shown_of r) tries) ++ t) (works-read (n + length tries) works rest more)
-      ∙ sym (flat_map-append shown_text (map (shown_of r) tries) (map (shown_of r) rest))
-      ∙ ap texts (sym (map-append (shown_of r) tries rest)) ∙ ap (λ (xs : List Attempt). texts (map (shown_of r) xs)) (sym is)
+      map-append plain shown (works_read r (n + length shown) works (behind_all n (length shown) log))
+      ∙ (λ i. read.shows i ++ plains (works_read r (n + read.many i) works (left i)))
+      ∙ ap (λ (t : List Shown). plains (map (shown_of r) tries) ++ t) (works-read (n + length tries) works rest more)
+      ∙ sym (map-append plain (map (shown_of r) tries) (map (shown_of r) rest))
+      ∙ ap plains (sym (map-append (shown_of r) tries rest)) ∙ ap (λ (xs : List Attempt). plains (map (shown_of r) xs)) (sym is)

@@ -1,7 +1,9 @@
 -- What is read of a legal record is its text.
 use Rattle.std.proofs.Common.{◌≡◌, ℕ, zero, suc, ◌+◌, ◌-◌, List, [], ◌∷◌, ◌++◌, length, take, drop, map, Some, refl, ap, sym, ◌∙◌, subst, arith, append_assoc, length-append}
 use Rattle.std.specs.Prelude.{flat_map, slice_get, unwrap_or, IfOk, Result, Ok, Err}
-use Rattle.std.proofs.lemmas.Grind.{flat_map-append}
+use Rattle.std.proofs.lemmas.List.{map-append}
+use Rattle.sql_base.specs.declared.outcomes.Outcome.{Outcome}
+use Rattle.sql_base.specs.declared.outcomes.Outcome.TheVariants.{Committed, RolledBack, Aborted}
 use Rattle.sql_base.specs.declared.scripts.Script.{Script}
 use Rattle.sql_base.specs.declared.scripts.Work.{Work}
 use Rattle.sql_base.specs.declared.tables.TableDef.{TableDef}
@@ -21,7 +23,8 @@ use Rattle.run_record.specs.Serial.{final_records}
 use Rattle.run_record.specs.Text.{IsText, ShowSessions, shown_of}
 use Rattle.run_record.specs.declared.records.RunRecord.{RunRecord}
 use Rattle.record_text.specs.Scaffold.Reading.{rows_joined, sessions_read, tables_read, works_read}
-use Rattle.record_text.proofs.Attempts.{texts, works-read}
+use Rattle.record_text.specs.Summary.{IsSummary, attempts_line, entries_lines, outcomes, summary_text, table_lines}
+use Rattle.record_text.proofs.Attempts.{plain, plains, works-read}
 
 -- an element of a list behind some others
 get_behind : {A : Type 0} (front : List A) (x : A) (back : List A) (n : ℕ) → n ≡ length front → slice_get (front ++ x ∷ back) n ≡ Some x
@@ -34,7 +37,7 @@ get_behind (y ∷ front) x back (suc n) e = get_behind front x back n (omega (ar
 record ShowsFrom (script : Script) (kept : RunRecord) (session : ℕ) (works : List (List Work)) (logs : List (List LogEntry)) : Type 0 where
   shown : List Shown
   shows : ShowSessions script kept session works shown
-  same : texts (sessions_read script session works logs) ≡ texts shown
+  same : plains (sessions_read script session works logs) ≡ plains shown
 
 module _ (script : Script) (kept : RunRecord) (legal : Legal script kept) where
   shows-from : (works : List (List Work)) (logs : List (List LogEntry)) (session : ℕ) (front : List (List Work)) (before : List (List LogEntry)) → script.sessions ≡ front ++ works → kept.logs ≡ before ++ logs
@@ -55,9 +58,9 @@ module _ (script : Script) (kept : RunRecord) (legal : Legal script kept) where
       record {
         shown = map (shown_of r) follows.0 ++ rest.shown;
         shows = (follows.0, rest.shown, reads, refl, rest.shows);
-        same = flat_map-append shown_text (works_read r 1 work log) (sessions_read script (session + 1) works logs)
-            ∙ (λ i. (ap (λ (l : List LogEntry). texts (works_read r 1 work l)) log_is ∙ works-read r legal.script_runs.parts 1 work follows.0 reads.attempts_are) i ++ rest.same i)
-            ∙ sym (flat_map-append shown_text (map (shown_of r) follows.0) rest.shown);
+        same = map-append plain (works_read r 1 work log) (sessions_read script (session + 1) works logs)
+            ∙ (λ i. (ap (λ (l : List LogEntry). plains (works_read r 1 work l)) log_is ∙ works-read r legal.script_runs.parts 1 work follows.0 reads.attempts_are) i ++ rest.same i)
+            ∙ sym (map-append plain (map (shown_of r) follows.0) rest.shown);
       }
 
 -- the rows that are kept of partitions, by their tables
@@ -93,14 +96,58 @@ pub tables-left : (script : Script) (kept : RunRecord) → Legal script kept →
 tables-left script kept legal =
     ap (tables_read script.tables) (legal.rows_kept ∙ parts-left (openings script) kept.histories) ∙ tables-by script.tables (by_part (λ p history. records (replay p history).cells) (openings script) kept.histories)
 
--- the text of what is read
-pub text-read : (script : Script) (kept : RunRecord) (bytes : List ℕ) → Legal script kept → bytes ≡ run_text script.tables (sessions_read script 1 script.sessions kept.logs) (tables_read script.tables kept.rows) → IsText script kept bytes
-text-read script kept bytes legal is =
-    let from = shows-from script kept legal script.sessions kept.logs 1 [] [] refl refl refl refl legal.logs_follow.logs in
-    (from.shown, from.shows, is ∙ (λ i. from.same i ++ tables_text script.tables (tables-left script kept legal i)))
+-- what counts of attempts has their text, and how they ended
+plain-text : (shown : Shown) → shown_text (plain shown) ≡ shown_text shown
+plain-text shown = by shown.outcome
+  where
+    with_outcome : Outcome → Shown
+    with_outcome outcome = record shown { outcome = outcome }
 
--- and of a result that is what is read
-pub result-read : {A B : Type 0} (bytes_of : A → List ℕ) (script : Script) (kept : RunRecord) (result : Result A B) → Legal script kept
-    → IfOk result (λ a. bytes_of a ≡ run_text script.tables (sessions_read script 1 script.sessions kept.logs) (tables_read script.tables kept.rows)) → IfOk result (λ a. IsText script kept (bytes_of a))
-result-read bytes_of script kept (Ok a) legal is = text-read script kept (bytes_of a) legal is
-result-read bytes_of script kept (Err fault) legal is = tt
+    by : (outcome : Outcome) → shown_text (plain (with_outcome outcome)) ≡ shown_text (with_outcome outcome)
+    by (Committed stamp) = refl
+    by RolledBack = refl
+    by (Aborted abort) = refl
+
+plains-text : (shown : List Shown) → flat_map shown_text (plains shown) ≡ flat_map shown_text shown
+plains-text [] = refl
+plains-text (s ∷ shown) = λ i. plain-text s i ++ plains-text shown i
+
+plains-outcomes : (shown : List Shown) → outcomes (plains shown) ≡ outcomes shown
+plains-outcomes [] = refl
+plains-outcomes (s ∷ shown) = ap (λ (os : List Outcome). s.outcome ∷ os) (plains-outcomes shown)
+
+-- attempts of which the same counts
+same-texts : (xs ys : List Shown) → plains xs ≡ plains ys → flat_map shown_text xs ≡ flat_map shown_text ys
+same-texts xs ys same = sym (plains-text xs) ∙ ap (flat_map shown_text) same ∙ plains-text ys
+
+same-outcomes : (xs ys : List Shown) → plains xs ≡ plains ys → outcomes xs ≡ outcomes ys
+same-outcomes xs ys same = sym (plains-outcomes xs) ∙ ap outcomes same ∙ plains-outcomes ys
+
+module _ (script : Script) (kept : RunRecord) (legal : Legal script kept) where
+  all_shown : ShowsFrom script kept 1 script.sessions kept.logs
+  all_shown = shows-from script kept legal script.sessions kept.logs 1 [] [] refl refl refl refl legal.logs_follow.logs
+
+  -- the text of what is read
+  pub text-read : (bytes : List ℕ) → bytes ≡ run_text script.tables (sessions_read script 1 script.sessions kept.logs) (tables_read script.tables kept.rows) → IsText script kept bytes
+  text-read bytes is =
+      (all_shown.shown, all_shown.shows, is ∙ (λ i. same-texts (sessions_read script 1 script.sessions kept.logs) all_shown.shown all_shown.same i ++ tables_text script.tables (tables-left script kept legal i)))
+
+  -- and its summary
+  pub summary-read : (bytes : List ℕ) → bytes ≡ summary_text script.tables (sessions_read script 1 script.sessions kept.logs) kept.histories (tables_read script.tables kept.rows) → IsSummary script kept bytes
+  summary-read bytes is = (
+    all_shown.shown,
+    all_shown.shows,
+    is
+        ∙ (λ i. attempts_line (same-outcomes (sessions_read script 1 script.sessions kept.logs) all_shown.shown all_shown.same i) ++ (entries_lines kept.histories ++ table_lines script.tables (tables-left script kept legal i))),
+  )
+
+  -- and of a result that is what is read
+  pub result-read : {A B : Type 0} (bytes_of : A → List ℕ) (result : Result A B)
+      → IfOk result (λ a. bytes_of a ≡ run_text script.tables (sessions_read script 1 script.sessions kept.logs) (tables_read script.tables kept.rows)) → IfOk result (λ a. IsText script kept (bytes_of a))
+  result-read bytes_of (Ok a) is = text-read (bytes_of a) is
+  result-read bytes_of (Err fault) is = tt
+
+  pub result-summed : {A B : Type 0} (bytes_of : A → List ℕ) (result : Result A B)
+      → IfOk result (λ a. bytes_of a ≡ summary_text script.tables (sessions_read script 1 script.sessions kept.logs) kept.histories (tables_read script.tables kept.rows)) → IfOk result (λ a. IsSummary script kept (bytes_of a))
+  result-summed bytes_of (Ok a) is = summary-read (bytes_of a) is
+  result-summed bytes_of (Err fault) is = tt

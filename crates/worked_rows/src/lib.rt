@@ -6,6 +6,8 @@ mod codes;
 #[cfg(test)]
 mod edges;
 #[cfg(test)]
+mod made;
+#[cfg(test)]
 mod mails;
 #[cfg(test)]
 mod messages;

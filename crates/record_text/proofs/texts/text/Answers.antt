@@ -12,5 +12,5 @@ returns c =
     let shown : c.items-3.result.now ≡ sessions_read script 1 script.sessions kept.logs = c.items-3.ensures ∙ c.in_ok-shown.ensures ∙ ap (sessions_read script 1 script.sessions) c.items.ensures in
     let records : c.items-4.result.now ≡ tables_read script.tables kept.rows =
     c.items-4.ensures ∙ c.in_ok-records.ensures ∙ (λ i. tables_read (c.items-tables.ensures i) (c.items-2.ensures i)) in
-    result-read (λ v. v.items) script kept c.print_run.result c.requires
+    result-read script kept c.requires (λ v. v.items) c.print_run.result
     (subst (λ text. IfOk c.print_run.result (λ bytes. bytes.items ≡ text)) (λ i. run_text (c.items-tables.ensures i) (shown i) (records i)) c.print_run.ensures)

@@ -1,0 +1,8 @@
+use Rattle.std.proofs.Common.{◌≡◌, ◌≤◌, ◌*◌, ◌^◌, take}
+use Rattle.std.specs.Prelude.{sum_by}
+use Rattle.record_text.specs.Summary.{entries_with, is_locked}
+use Rattle.record_text.proofs.summing.all_locked.Given as goal
+
+-- those of the histories so far, which are fewer than 2^64 of one history
+abbrev pub invariant-loop-history : goal.invariant-loop-history
+invariant-loop-history l = (l.count ≡ sum_by (entries_with is_locked) (take l.history-index l.histories)) × (l.count ≤ l.history-index * 2 ^ 64)

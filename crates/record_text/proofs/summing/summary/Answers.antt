@@ -1,0 +1,16 @@
+use Rattle.std.proofs.Common.{◌≡◌, ap, ◌∙◌, subst}
+use Rattle.std.specs.Prelude.{IfOk}
+use Rattle.record_text.specs.Scaffold.Reading.{sessions_read, tables_read}
+use Rattle.record_text.specs.Summary.{summary_text}
+use Rattle.record_text.proofs.Sessions.{result-summed}
+use Rattle.record_text.proofs.summing.summary.Goals as goal
+
+pub returns : goal.returns
+returns c =
+    let script = c.args.script.now in
+    let kept = c.args.kept.now in
+    let shown : c.items-3.result.now ≡ sessions_read script 1 script.sessions kept.logs = c.items-3.ensures ∙ c.in_ok-shown.ensures ∙ ap (sessions_read script 1 script.sessions) c.items.ensures in
+    let records : c.items-5.result.now ≡ tables_read script.tables kept.rows =
+    c.items-5.ensures ∙ c.in_ok-records.ensures ∙ (λ i. tables_read (c.items-tables.ensures i) (c.items-2.ensures i)) in
+    result-summed script kept c.requires (λ v. v.items) c.print_summary.result
+    (subst (λ text. IfOk c.print_summary.result (λ bytes. bytes.items ≡ text)) (λ i. summary_text (c.items-tables.ensures i) (shown i) (c.items-4.ensures i) (records i)) c.print_summary.ensures)

@@ -1,0 +1,3 @@
+pub mod InLine
+mod Rules
+mod WorkedRows
