@@ -16,7 +16,8 @@ fn column_of(alloc: Global, name: &[u8], kind: ColumnKind) -> Result<Column, NoM
     })
 }
 
-fn table_of(alloc: Global) -> Result<TableDef, NoMemory> {
+/// t (k INT, v INT, c CHAR(4), PRIMARY KEY (k))
+pub fn table_of(alloc: Global) -> Result<TableDef, NoMemory> {
     let mut columns = List::new(alloc);
     columns.push(column_of(alloc, b"k", ColumnKind::Int)?)?;
     columns.push(column_of(alloc, b"v", ColumnKind::Int)?)?;
@@ -33,7 +34,7 @@ fn table_of(alloc: Global) -> Result<TableDef, NoMemory> {
 }
 
 /// A letter for what a code is verified as: a number, a text, a truth value, none, or want of memory.
-fn verified_as(alloc: Global, code: &[u8], table: &TableDef) -> u8 {
+pub fn verified_as(alloc: Global, code: &[u8], table: &TableDef) -> u8 {
     match verify(alloc, code, table) {
         Ok(verified) => match verified.kind() {
             ExprKind::Number => b'n',
@@ -77,7 +78,7 @@ fn codes_are_verified(rt: HostRuntime) -> Result<(), Fail> {
 }
 
 /// How many assignments a code is verified as, or none.
-fn assignments_in(alloc: Global, code: &[u8], table: &TableDef) -> Option<usize> {
+pub fn assignments_in(alloc: Global, code: &[u8], table: &TableDef) -> Option<usize> {
     match verify_sets(alloc, code, table) {
         Ok(sets) => Some(sets.sets().len()),
         Err(_fault) => None,

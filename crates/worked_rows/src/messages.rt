@@ -1,8 +1,8 @@
-//! Bytes that spell requests and replies, and bytes that spell none.
+//! Bytes that spell requests, and bytes that spell none.
 
-use dp_messages::{
-    BytesFault, accept, address, decode_reply, decode_request, encode_reply, encode_request,
-};
+use dp_messages::{Ask, BytesFault, accept, address, decode_request, encode_request};
+use sql_base::NoMemory;
+use std::alloc::Global;
 use std::test::Fail;
 
 /// A whole request, and its opener and sync.
@@ -53,24 +53,91 @@ fn requests_are_read_and_spelled_again(rt: HostRuntime) -> Result<(), Fail> {
     Ok(())
 }
 
+/// What stands behind opener 1, sync 1 and ordinal 1, and the name of what it asks.
+const ASKS: [(&[u8], &[u8]); 12] = [
+    (
+        &[1, 3, 0, 1, 16, 1, 32, 1, 0, 3, 2, 1, b'A', 2, 1, 0],
+        b"BeginRead",
+    ),
+    (
+        &[2, 2, 1, 9, 1, 9, 1, 9, 0, 0, 6, 1, 1, 0, 2, 3, 0],
+        b"BeginUpdate",
+    ),
+    (&[3, 3, 0, 1, 1, 1, 2, 0], b"BeginDelete"),
+    (&[4, 0, 0, 0, 1, 1, b'k'], b"Continue"),
+    (&[5, 1, 1, 5, 0, 1, 0], b"ReadKey"),
+    (&[6, 0, 2, 7, 8], b"Insert"),
+    (&[6, 0, 0], b"Insert"),
+    (&[7, 0, 1], b"LockGranule"),
+    (&[7, 2, 1, 2, 2], b"LockGranule"),
+    (&[8], b"Prepare"),
+    (&[9, 0, 0, 0, 0, 0, 1, 0, 0], b"EndCommit"),
+    (&[10], b"EndUndo"),
+];
+
+fn ask_name(ask: &Ask) -> &'static [u8] {
+    match ask {
+        Ask::BeginRead { .. } => b"BeginRead",
+        Ask::BeginUpdate { .. } => b"BeginUpdate",
+        Ask::BeginDelete { .. } => b"BeginDelete",
+        Ask::Continue { .. } => b"Continue",
+        Ask::ReadKey { .. } => b"ReadKey",
+        Ask::Insert { .. } => b"Insert",
+        Ask::LockGranule { .. } => b"LockGranule",
+        Ask::Prepare => b"Prepare",
+        Ask::EndCommit { .. } => b"EndCommit",
+        Ask::EndUndo => b"EndUndo",
+    }
+}
+
+/// The bytes behind opener 1, sync 1 and ordinal 1.
+fn asking(alloc: Global, ask: &[u8]) -> Result<Vec<u8>, NoMemory> {
+    let mut bytes = [0, 0, 0, 1, 0, 0, 0, 0, 0, 0, 0, 1, 0, 0, 0, 1].to_vec(alloc)?;
+    bytes.extend_from_slice(ask)?;
+    Ok(bytes)
+}
+
 #[test]
-fn replies_are_read_and_spelled_again(rt: HostRuntime) -> Result<(), Fail> {
+fn each_request_has_its_kind(rt: HostRuntime) -> Result<(), Fail> {
     let alloc = rt.alloc();
-    let rows: [&[u8]; 6] = [
-        // Ended with two rows, the second empty.
-        &[1, 0, 2, 0, 2, 97, 98, 0, 0, 0, 0, 0, 0],
-        // A Redrive of subset 5 by a lock, with 2 records changed.
-        &[2, 0, 0, 0, 5, 1, 9, 2, 0, 0, 0, 0, 0, 2],
-        // The lock of attempt 4 of session 3.
-        &[3, 0, 0, 0, 3, 0, 0, 0, 4, 1, 8, 1],
-        // The second CHECK fails.
-        &[4, 1, 8, 3, 0, 0, 0, 2],
-        &[10, 0, 0, 1, 0],
-        &[20],
-    ];
-    for bytes in rows {
-        let again = encode_reply(alloc, &decode_reply(alloc, bytes)?)?;
-        assert_eq!(rt; again.as_slice(), bytes);
+    for (ask, name) in ASKS {
+        let bytes = asking(alloc, ask)?;
+        let message = accept(alloc, asking(alloc, ask)?)?;
+        let envelope = decode_request(alloc, &message)?;
+        assert!(rt; ask_name(&envelope.request.ask) == name, "{name:?}");
+        let again = encode_request(alloc, &envelope)?;
+        assert_eq!(rt; again.bytes(), bytes.as_slice(), "{name:?}");
+    }
+    Ok(())
+}
+
+/// How many of the beginnings of the bytes are messages.
+fn accepted_beginnings(alloc: Global, bytes: &[u8]) -> Result<usize, NoMemory> {
+    let mut count = 0usize;
+    for length in 0..bytes.len() {
+        let beginning = bytes[..length].to_vec(alloc)?;
+        if accept(alloc, beginning).is_ok() {
+            count = count.saturating_add(1);
+        }
+    }
+    Ok(count)
+}
+
+#[test]
+fn no_request_is_cut_short_or_followed(rt: HostRuntime) -> Result<(), Fail> {
+    let alloc = rt.alloc();
+    for (ask, name) in ASKS {
+        let mut bytes = asking(alloc, ask)?;
+        assert_eq!(rt;
+            accepted_beginnings(alloc, bytes.as_slice())?,
+            0,
+            "{name:?}"
+        );
+        bytes.push(0)?;
+        assert!(rt;
+            matches!(accept(alloc, bytes), Err(BytesFault::Malformed)),
+            "{name:?}"
+        );
     }
     Ok(())
 }
@@ -123,12 +190,11 @@ const HOSTILE_ENVELOPES: [&[u8]; 7] = [
 fn hostile_bytes_are_no_request(rt: HostRuntime) -> Result<(), Fail> {
     let alloc = rt.alloc();
     for ask in HOSTILE_ASKS {
-        let mut bytes = [0, 0, 0, 1, 0, 0, 0, 0, 0, 0, 0, 1, 0, 0, 0, 1].to_vec(alloc)?;
-        bytes.extend_from_slice(ask)?;
-        assert!(rt;
-            matches!(accept(alloc, bytes), Err(BytesFault::Malformed)),
-            "{ask:?}"
+        let refused = matches!(
+            accept(alloc, asking(alloc, ask)?),
+            Err(BytesFault::Malformed)
         );
+        assert!(rt; refused, "{ask:?}");
     }
     for bytes in HOSTILE_ENVELOPES {
         let refused = matches!(
@@ -138,32 +204,4 @@ fn hostile_bytes_are_no_request(rt: HostRuntime) -> Result<(), Fail> {
         assert!(rt; refused, "{bytes:?}");
     }
     Ok(())
-}
-
-#[test]
-fn hostile_bytes_are_no_reply(rt: HostRuntime) {
-    let rows: [&[u8]; 13] = [
-        &[],
-        // Kinds 0 and 21.
-        &[0],
-        &[21],
-        // A byte behind Done and behind a floor.
-        &[7, 7],
-        &[8, 0, 0, 0, 0, 0, 0, 0, 1, 0],
-        // 65,535 rows of which there is none, and one row of 65,535 bytes.
-        &[1, 255, 255],
-        &[1, 0, 1, 255, 255, 0],
-        // No count of changes behind the rows.
-        &[1, 0, 0, 0, 0, 0],
-        // Causes 0 and 5, faults 0 and 4, and a CHECK without its number.
-        &[2, 0, 0, 0, 5, 1, 9, 0, 0, 0, 0, 0, 0, 2],
-        &[2, 0, 0, 0, 5, 1, 9, 5, 0, 0, 0, 0, 0, 2],
-        &[4, 1, 8, 0],
-        &[4, 1, 8, 4],
-        &[4, 1, 8, 3, 0, 0, 0],
-    ];
-    for bytes in rows {
-        let refused = matches!(decode_reply(rt.alloc(), bytes), Err(BytesFault::Malformed));
-        assert!(rt; refused, "{bytes:?}");
-    }
 }
