@@ -1,5 +1,5 @@
 -- What `parse` gives is the number of a word of digits.
-use Rattle.std.proofs.Common.{◌≡◌, ◌≢◌, ◌<◌, ◌^◌, ◌+◌, ℕ, zero, suc, List, [], ◌∷◌, ◌++◌, length, map, take, arith, get_or, ap, ◌∙◌, refl, codes, nat_eq, Ok, Err, Result, true, false, rules, subst, sym}
+use Rattle.std.proofs.Common.{◌≡◌, ◌≢◌, ◌<◌, ◌^◌, ◌+◌, ℕ, zero, suc, List, [], ◌∷◌, ◌++◌, length, map, take, arith, get_or, ap, ◌∙◌, refl, nat_eq, Ok, Err, Result, true, false, rules, subst, sym}
 use Rattle.std.specs.List.{AllZip}
 use Rattle.std.specs.Result.{OkIff}
 use Rattle.std.specs.Str.{all_ascii_digits}
@@ -7,9 +7,9 @@ use Rattle.std.specs.Str.Parse.{ParsesUnsigned, digits_value}
 use Rattle.std.proofs.lemmas.List.{map-append, take_more}
 use Rattle.std.proofs.lemmas.Str.Parse.{IsNumeralModel, numerals_by_value, parse_plain}
 use Rattle.std.proofs.lemmas.Result.{OkIff-at_ok}
-use Rattle.nonstop_sql.specs.Commands.{AsksFor, IsChoice, IsLine}
+use Rattle.nonstop_sql.specs.Commands.{AsksFor, IsChoice, IsLine, IsNumeral, IsOneNumber}
 use Rattle.nonstop_sql.specs.declared.commands.Command.{Command}
-use Rattle.nonstop_sql.specs.declared.commands.Command.TheVariants.{Check, Oracle, Steps}
+use Rattle.nonstop_sql.specs.declared.commands.Command.TheVariants.{Check, Oracle, Steps, Make, Trial}
 
 abbrev AreDigits : List ℕ → Type 0
 AreDigits word = all_ascii_digits word ≡ true
@@ -20,19 +20,19 @@ own = numerals_by_value AreDigits (search rules)
 no_sign : (byte : ℕ) → nat_eq byte 43 ≡ false → byte ≢ 43
 no_sign byte differs same = cc
 
-module _ {E : Type 0} (word : List ℕ) (r : Result ℕ E) (parses : ParsesUnsigned 32 10 word r) (unsigned : nat_eq (get_or word 0 0) 43 ≡ false) where
-  told : OkIff r (AreDigits word × (0 < length word) × (digits_value 10 word < 2 ^ 32)) (digits_value 10 word)
-  told = parse_plain own 32 word r parses (no_sign (get_or word 0 0) unsigned)
+module _ {E : Type 0} (bits : ℕ) (word : List ℕ) (r : Result ℕ E) (parses : ParsesUnsigned bits 10 word r) (unsigned : nat_eq (get_or word 0 0) 43 ≡ false) where
+  told : OkIff r (AreDigits word × (0 < length word) × (digits_value 10 word < 2 ^ bits)) (digits_value 10 word)
+  told = parse_plain own bits word r parses (no_sign (get_or word 0 0) unsigned)
 
-  pub is_choice : (choice : ℕ) → r ≡ Ok choice → IsChoice word choice
-  is_choice choice found =
-      let h = OkIff-at_ok r _ _ choice told found in
-      record { digits = h.0.0; some = h.0.1; spelled = h.1; within = subst (λ n. n < 2 ^ 32) (sym h.1) h.0.2 }
+  pub is_numeral : (number : ℕ) → r ≡ Ok number → IsNumeral bits word number
+  is_numeral number found =
+      let h = OkIff-at_ok r _ _ number told found in
+      record { digits = h.0.0; some = h.0.1; spelled = h.1; within = subst (λ n. n < 2 ^ bits) (sym h.1) h.0.2 }
 
-  pub is_none : (error : E) → r ≡ Err error → (choice : ℕ) → IsChoice word choice → ⊥
-  is_none error failed choice is =
-      let refuses = subst (λ x. OkIff x (AreDigits word × (0 < length word) × (digits_value 10 word < 2 ^ 32)) (digits_value 10 word)) failed told in
-      refuses (is.digits, is.some, subst (λ n. n < 2 ^ 32) is.spelled is.within)
+  pub is_none : (error : E) → r ≡ Err error → (number : ℕ) → IsNumeral bits word number → ⊥
+  is_none error failed number is =
+      let refuses = subst (λ x. OkIff x (AreDigits word × (0 < length word) × (digits_value 10 word < 2 ^ bits)) (digits_value 10 word)) failed told in
+      refuses (is.digits, is.some, subst (λ n. n < 2 ^ bits) is.spelled is.within)
 
 -- lists that go together go on together
 module _ {A B C : Type 0} (R : B → C → Type 0) (f : A → B) where
@@ -66,26 +66,44 @@ same_choices (w ∷ words) (x ∷ xs) (y ∷ ys) a b =
     let first : x ≡ y = a.0.spelled ∙ sym b.0.spelled in
     ap (λ z. z ∷ xs) first ∙ ap (λ zs. y ∷ zs) (same_choices words xs ys a.1 b.1)
 
+one_number : (words : List (List ℕ)) (m n : ℕ) → IsOneNumber words m → IsOneNumber words n → m ≡ n
+one_number [] m n a b = absurd a
+one_number (word ∷ []) m n a b = a.spelled ∙ sym b.spelled
+one_number (word ∷ other ∷ words) m n a b = absurd a
+
 abbrev first_letter : List ℕ → ℕ
 first_letter word = get_or word 0 0
 
-check_steps : codes "check" ≡ codes "steps" → ⊥
-check_steps e = omega (arith, ap first_letter e)
-
 module _ (name : List ℕ) (words : List (List ℕ)) where
-  not_both : {n m : List ℕ} → length n ≢ length m → name ≡ n → name ≡ m → ⊥
-  not_both differ a b = differ (ap length (sym a ∙ b))
+  not_both : {n m : List ℕ} → first_letter n ≢ first_letter m → name ≡ n → name ≡ m → ⊥
+  not_both differ a b = differ (ap first_letter (sym a ∙ b))
 
   pub one_asked : (a b : Command) → AsksFor name words a → AsksFor name words b → a ≡ b
   one_asked Check Check h k = refl
   one_asked Oracle Oracle h k = refl
   one_asked (Steps xs) (Steps ys) h k = ap Steps (same_choices words xs ys h.1.each k.1.each)
+  one_asked (Make m) (Make n) h k = ap Make (one_number words m n h.1 k.1)
+  one_asked (Trial m) (Trial n) h k = ap Trial (one_number words m n h.1 k.1)
   one_asked Check Oracle h k = absurd (not_both (λ e. omega (arith, e)) h.0 k.0)
+  one_asked Check (Steps y) h k = absurd (not_both (λ e. omega (arith, e)) h.0 k.0)
+  one_asked Check (Make y) h k = absurd (not_both (λ e. omega (arith, e)) h.0 k.0)
+  one_asked Check (Trial y) h k = absurd (not_both (λ e. omega (arith, e)) h.0 k.0)
   one_asked Oracle Check h k = absurd (not_both (λ e. omega (arith, e)) h.0 k.0)
-  one_asked Check (Steps ys) h k = absurd (check_steps (sym h.0 ∙ k.0))
-  one_asked (Steps xs) Check h k = absurd (check_steps (sym k.0 ∙ h.0))
-  one_asked Oracle (Steps ys) h k = absurd (not_both (λ e. omega (arith, e)) h.0 k.0)
-  one_asked (Steps xs) Oracle h k = absurd (not_both (λ e. omega (arith, e)) h.0 k.0)
+  one_asked Oracle (Steps y) h k = absurd (not_both (λ e. omega (arith, e)) h.0 k.0)
+  one_asked Oracle (Make y) h k = absurd (not_both (λ e. omega (arith, e)) h.0 k.0)
+  one_asked Oracle (Trial y) h k = absurd (not_both (λ e. omega (arith, e)) h.0 k.0)
+  one_asked (Steps x) Check h k = absurd (not_both (λ e. omega (arith, e)) h.0 k.0)
+  one_asked (Steps x) Oracle h k = absurd (not_both (λ e. omega (arith, e)) h.0 k.0)
+  one_asked (Steps x) (Make y) h k = absurd (not_both (λ e. omega (arith, e)) h.0 k.0)
+  one_asked (Steps x) (Trial y) h k = absurd (not_both (λ e. omega (arith, e)) h.0 k.0)
+  one_asked (Make x) Check h k = absurd (not_both (λ e. omega (arith, e)) h.0 k.0)
+  one_asked (Make x) Oracle h k = absurd (not_both (λ e. omega (arith, e)) h.0 k.0)
+  one_asked (Make x) (Steps y) h k = absurd (not_both (λ e. omega (arith, e)) h.0 k.0)
+  one_asked (Make x) (Trial y) h k = absurd (not_both (λ e. omega (arith, e)) h.0 k.0)
+  one_asked (Trial x) Check h k = absurd (not_both (λ e. omega (arith, e)) h.0 k.0)
+  one_asked (Trial x) Oracle h k = absurd (not_both (λ e. omega (arith, e)) h.0 k.0)
+  one_asked (Trial x) (Steps y) h k = absurd (not_both (λ e. omega (arith, e)) h.0 k.0)
+  one_asked (Trial x) (Make y) h k = absurd (not_both (λ e. omega (arith, e)) h.0 k.0)
 
 pub one_line : (words : List (List ℕ)) (a b : Command) → IsLine words a → IsLine words b → a ≡ b
 one_line [] a b h k = absurd h

@@ -1,5 +1,5 @@
 -- How the parts of a run end, put together.
-use Rattle.std.proofs.Common.{◌≡◌, ◌≢◌, ℕ, ◌+◌, ◌<◌, ◌≤◌, List, length, take, drop, Option, Some, None, Err, IfSome, IsSome, ◌⊎◌, ◌↔◌, inl, inr, refl, ap, sym, ◌∙◌, subst, arith}
+use Rattle.std.proofs.Common.{◌≡◌, ◌≢◌, ℕ, ◌+◌, ◌<◌, ◌≤◌, List, [], length, take, drop, Option, Some, None, Err, IfSome, IsSome, ◌⊎◌, ◌↔◌, inl, inr, refl, ap, sym, ◌∙◌, subst, arith}
 use Rattle.std.specs.Io.KnownBytes.{Appends, Keeps}
 use Rattle.std.specs.Prelude.{count_by, not, ◌==◌}
 use Rattle.std.specs.List.{suffix_len}
@@ -8,7 +8,6 @@ use Rattle.std.proofs.lemmas.List.{take_all, drop_all, take-take, length-take-le
 use Rattle.outside.specs.Counter.{Rose}
 use Rattle.statement_reader.specs.Spells.{FaultOf, Spells, ReadsAs, IsFault, IsRefusal}
 use Rattle.statement_words.specs.Words.{words_of}
-use Rattle.statement_reader.proofs.Refusals.{spelled_once}
 use Rattle.step_world.specs.Tellings.{Telling}
 use Rattle.nonstop_sql.specs.declared.commands.Command.{Command}
 use Rattle.nonstop_sql.specs.declared.commands.Command.TheVariants as command
@@ -20,7 +19,10 @@ use Rattle.sql_base.specs.declared.scripts.Script.{Script}
 use Rattle.run_record.specs.declared.records.RunRecord.{RunRecord}
 use Rattle.nonstop_sql.specs.declared.outcome.Outcome.{Outcome}
 use Rattle.run_record.specs.Headline.{Headline}
-use Rattle.nonstop_sql.specs.Ends.{Ends, EndsOnBytes, EndsOnSource, IsCut, IsDone, IsRun, KeepsRecord, Makes, Spelled, SpellsNone, WasRead, Writes, refusal_of}
+use Rattle.run_record.specs.Text.{IsText}
+use Rattle.record_text.specs.Summary.{IsSummary}
+use Rattle.script_maker.specs.Making.{made}
+use Rattle.nonstop_sql.specs.Ends.{Ends, EndsOnBytes, EndsOnSource, IsCut, IsDone, IsRun, KeepsRecord, Makes, OnScript, ReadsScript, Spelled, SpellsNone, WasRead, Writes, number_of, refusal_of}
 
 abbrev pub bare : ℕ → Outcome
 bare status = record { status = status; kept = None; fault = None }
@@ -65,11 +67,15 @@ module _ (asked : Command) (wires : List Telling) where
       keeps_record command.Check m h = none_there m.0 h
       keeps_record command.Oracle m h = none_there m.0 h
       keeps_record (command.Steps choices) m h = tt
+      keeps_record (command.Make number) m h = none_there m.0 h
+      keeps_record (command.Trial number) m h = tt
 
       has_record : (asked : Command) → Makes asked wires script kept text → KeepsRecord asked → IsSome kept
       has_record command.Check m h = absurd h
       has_record command.Oracle m h = absurd h
       has_record (command.Steps choices) m h = m.0
+      has_record (command.Make number) m h = absurd h
+      has_record (command.Trial number) m h = m.0
 
   -- a write failed behind a front of it
   pub broken : (script : Script) (kept : Option RunRecord) (text : List ℕ) (taken taken' : Option (List ℕ)) (faults faults' : ℕ) → Makes asked wires script kept text
@@ -220,10 +226,17 @@ was_read (Some l) bytes P front spelled =
     (bytes, sym (front ∙ whole l (front_within l within)), spelled)
 
 module _ (asked : Command) (wires : List Telling) (left left' taken taken' : Option (List ℕ)) (read_faults read_faults' write_faults write_faults' : ℕ) where
+  -- a command that reads its script is told so
+  reading : (o : Outcome) → number_of asked ≡ None → IfSome left (λ l. EndsOnSource l left' o) → ReadsScript (number_of asked) left left' read_faults read_faults' o
+  reading o reads h = subst (λ n. ReadsScript n left left' read_faults read_faults' o) (sym reads) h
+
+  of_read : (P : Script → Type 0) → number_of asked ≡ None → WasRead left P → OnScript (number_of asked) left P
+  of_read P reads h = subst (λ n. OnScript n left P) (sym reads) h
+
   -- the bytes were read, and something was made of them
-  pub source-read : (bytes : List ℕ) (o : Outcome) → EndsOnBytes asked wires bytes taken taken' write_faults write_faults' o → IfSome left (λ l. bytes ≡ front_of l)
+  pub source-read : number_of asked ≡ None → (bytes : List ℕ) (o : Outcome) → EndsOnBytes asked wires bytes taken taken' write_faults write_faults' o → IfSome left (λ l. bytes ≡ front_of l)
       → IfSome left (λ l. left' ≡ Some (drop 4194305 l)) → Ends asked wires left left' read_faults read_faults' taken taken' write_faults write_faults' o
-  source-read bytes o ends front rest = record {
+  source-read reads bytes o ends front rest = record {
     status = (status_of_bytes o ends.status).0;
     words_stand = (status_of_bytes o ends.status).1;
     fault = ends.fault;
@@ -231,14 +244,14 @@ module _ (asked : Command) (wires : List Telling) (left left' taken taken' : Opt
     read_failed = λ h. absurd ((status_of_bytes o ends.status).2 h);
     write_failed = ends.failed;
     unwritten = ends.unwritten;
-    told = on_left asked wires left left' taken taken' bytes write_faults write_faults' o ends front rest;
-    done = λ h. was_read left bytes (IsDone asked wires taken taken' o.kept) front (ends.done h);
-    cut = λ h. was_read left bytes (IsCut asked wires taken taken') front (ends.cut h);
+    told = reading o reads (on_left asked wires left left' taken taken' bytes write_faults write_faults' o ends front rest);
+    done = λ h. of_read (IsDone asked wires taken taken' o.kept) reads (was_read left bytes (IsDone asked wires taken taken' o.kept) front (ends.done h));
+    cut = λ h. of_read (IsCut asked wires taken taken') reads (was_read left bytes (IsCut asked wires taken taken') front (ends.cut h));
   }
 
   -- a read failed
-  pub source-unread : Rose read_faults read_faults' → Keeps taken taken' → Ends asked wires left left' read_faults read_faults' taken taken' write_faults write_faults' (bare 3)
-  source-unread rose keeps = record {
+  pub source-unread : number_of asked ≡ None → Rose read_faults read_faults' → Keeps taken taken' → Ends asked wires left left' read_faults read_faults' taken taken' write_faults write_faults' (bare 3)
+  source-unread reads rose keeps = record {
     status = omega arith;
     words_stand = λ h. omega (arith, h);
     fault = (λ h. absurd (omega arith), λ h. absurd (cc));
@@ -246,7 +259,7 @@ module _ (asked : Command) (wires : List Telling) (left left' taken taken' : Opt
     read_failed = λ h. rose;
     write_failed = λ h. absurd (omega arith);
     unwritten = λ zero four. keeps;
-    told = on_told left;
+    told = reading (bare 3) reads (on_told left);
     done = λ h. absurd (omega arith);
     cut = λ h. absurd (omega arith);
   }
@@ -261,8 +274,8 @@ module _ (asked : Command) (wires : List Telling) (left left' taken taken' : Opt
       }
 
   -- memory was short while the source was read
-  pub source-short : Keeps taken taken' → Ends asked wires left left' read_faults read_faults' taken taken' write_faults write_faults' (bare 5)
-  source-short keeps = record {
+  pub source-short : number_of asked ≡ None → Keeps taken taken' → Ends asked wires left left' read_faults read_faults' taken taken' write_faults write_faults' (bare 5)
+  source-short reads keeps = record {
     status = omega arith;
     words_stand = λ h. omega (arith, h);
     fault = (λ h. absurd (omega arith), λ h. absurd (cc));
@@ -270,7 +283,7 @@ module _ (asked : Command) (wires : List Telling) (left left' taken taken' : Opt
     read_failed = λ h. absurd (omega arith);
     write_failed = λ h. absurd (omega arith);
     unwritten = λ zero four. keeps;
-    told = on_told left;
+    told = reading (bare 5) reads (on_told left);
     done = λ h. absurd (omega arith);
     cut = λ h. absurd (omega arith);
   }
@@ -290,6 +303,35 @@ pub kept-of-run : {choices : List ℕ} {wires : List Telling} {left left' taken 
 kept-of-run {choices = choices} {wires = wires} {o = o} ended zero =
     let (bytes, told, (script, spells, (text, makes, appends))) = ended.done zero in (script, headlined script text o.kept makes.1)
   where
-    headlined : (script : Script) (text : List ℕ) (kept : Option RunRecord) → IfSome kept (λ k. IsRun choices wires script k text) → IfSome kept (Headline script)
+    headlined : (script : Script) (text : List ℕ) (kept : Option RunRecord) → IfSome kept (λ k. IsRun choices wires script k × IsText script k text) → IfSome kept (Headline script)
     headlined script text None h = tt
-    headlined script text (Some k) h = h.headline
+    headlined script text (Some k) h = h.0.headline
+
+-- and of `trial` the record of a run of the script that is made
+pub kept-of-trial : {number : ℕ} {wires : List Telling} {left left' taken taken' : Option (List ℕ)} {reads reads' writes writes' : ℕ} {o : Outcome}
+    → Ends (command.Trial number) wires left left' reads reads' taken taken' writes writes' o → o.status ≡ 0 → IfSome o.kept (Headline (made number))
+kept-of-trial {number = number} {wires = wires} {o = o} ended zero =
+    let (text, makes, appends) = ended.done zero in headlined text o.kept makes.1
+  where
+    headlined : (text : List ℕ) (kept : Option RunRecord) → IfSome kept (λ k. IsRun [] wires (made number) k × IsSummary (made number) k text) → IfSome kept (Headline (made number))
+    headlined text None h = tt
+    headlined text (Some k) h = h.0.headline
+
+-- what was made of a script that is itself made, without reading anything
+pub made-alone : (asked : Command) (number : ℕ) (wires : List Telling) (left taken taken' : Option (List ℕ)) (faults write_faults write_faults' : ℕ) (o : Outcome) → number_of asked ≡ Some number
+    → Writes asked wires (made number) taken taken' write_faults write_faults' o → Ends asked wires left left faults faults taken taken' write_faults write_faults' o
+made-alone asked number wires left taken taken' faults write_faults write_faults' o makes writes = record {
+  status = status_written.0;
+  words_stand = status_written.1;
+  fault = (λ h. absurd (not_one o writes.status h), λ h. absurd (none_there writes.fault h));
+  kept = writes.kept;
+  read_failed = λ h. absurd (status_written.2 h);
+  write_failed = writes.failed;
+  unwritten = λ zero four. writes.unwritten (is_five o writes.status zero four);
+  told = subst (λ n. ReadsScript n left left faults faults o) (sym makes) (record { left_as_it_was = refl; faults_as_they_were = refl; reads_on = status_written.2; refuses_nothing = not_one o writes.status });
+  done = λ h. subst (λ n. OnScript n left (IsDone asked wires taken taken' o.kept)) (sym makes) (writes.done h);
+  cut = λ h. subst (λ n. OnScript n left (IsCut asked wires taken taken')) (sym makes) (writes.cut h);
+}
+  where
+    status_written : (o.status ≤ 5) × (o.status ≢ 2) × (o.status ≢ 3)
+    status_written = status_of_bytes o (inr writes.status)

@@ -1,5 +1,5 @@
 -- A legal record whose logs are in line has the headline.
-use Rattle.std.proofs.Common.{ℕ, List, length, Some, refl}
+use Rattle.std.proofs.Common.{ℕ, List, [], length, Some, IfSome, IsSome, refl}
 use Rattle.sql_base.specs.Scripts.{Lies}
 use Rattle.sql_base.specs.declared.scripts.Script.{Script}
 use Rattle.session_grammar.specs.Follows.{in_line}
@@ -13,7 +13,8 @@ use Rattle.serial_passes.proofs.Serially.{legal_is_serial}
 use Rattle.driver_laws.specs.Scheduling.{Scheduled}
 use Rattle.step_world.specs.Runs.{AllCarried}
 use Rattle.step_world.specs.Tellings.{Telling}
-use Rattle.nonstop_sql.specs.Ends.{Makes}
+use Rattle.record_text.specs.Summary.{IsSummary}
+use Rattle.nonstop_sql.specs.Ends.{IsRun, Makes}
 use Rattle.nonstop_sql.specs.declared.commands.Command.TheVariants.{Steps}
 use Rattle.alone_laws.proofs.OneSession.{alone_is_one_thread}
 
@@ -27,7 +28,11 @@ headlined script kept legal lines =
       alone = λ one heard. alone_is_one_thread script kept legal one heard;
     }
 
--- so `steps` makes of a script what it should
+-- so `steps` and `trial` make of a script what they should
 pub made-run : (choices : List ℕ) (wires : List Telling) (script : Script) (kept : RunRecord) (text : List ℕ) → Headline script kept → Scheduled choices kept → AllCarried wires kept → IsText script kept text
     → Makes (Steps choices) wires script (Some kept) text
-made-run choices wires script kept text headline scheduled carried is_text = (refl, record { headline = headline; scheduled = scheduled; carried = carried; text_is = is_text })
+made-run choices wires script kept text headline scheduled carried is_text = (refl, (record { headline = headline; scheduled = scheduled; carried = carried }, is_text))
+
+pub made-trial : (wires : List Telling) (script : Script) (kept : RunRecord) (text : List ℕ) → Headline script kept → Scheduled [] kept → AllCarried wires kept → IsSummary script kept text
+    → IsSome (Some kept) × IfSome (Some kept) (λ k. IsRun [] wires script k × IsSummary script k text)
+made-trial wires script kept text headline scheduled carried is_summary = (refl, (record { headline = headline; scheduled = scheduled; carried = carried }, is_summary))

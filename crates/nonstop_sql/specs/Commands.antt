@@ -5,25 +5,36 @@ use Rattle.std.specs.Str.{all_ascii_digits}
 use Rattle.std.specs.Str.Parse.{digits_value}
 use Rattle.std.specs.declared.alloc.Global.{Global}
 use Rattle.nonstop_sql.specs.declared.commands.Command.{Command}
-use Rattle.nonstop_sql.specs.declared.commands.Command.TheVariants.{Check, Oracle, Steps}
+use Rattle.nonstop_sql.specs.declared.commands.Command.TheVariants.{Check, Oracle, Steps, Make, Trial}
 
--- a word spells a number of 32 bits in decimal digits
-pub record IsChoice (word : List ℕ) (choice : ℕ) : Type 0 where
+-- a word spells a number of so many bits in decimal digits
+pub record IsNumeral (bits : ℕ) (word : List ℕ) (number : ℕ) : Type 0 where
   pub digits : all_ascii_digits word ≡ true
   pub some : 0 < length word
-  pub spelled : choice ≡ digits_value 10 word
-  pub within : choice < 2 ^ 32
+  pub spelled : number ≡ digits_value 10 word
+  pub within : number < 2 ^ bits
+
+abbrev pub IsChoice : List ℕ → ℕ → Type 0
+IsChoice word choice = IsNumeral 32 word choice
 
 -- at most 10,000 of them
 pub record AreChoices (words : List (List ℕ)) (choices : List ℕ) : Type 0 where
   pub few : length words ≤ 10000
   pub each : AllZip IsChoice words choices
 
--- what the words behind the program's name ask for: `check` and `oracle` stand alone, `steps` takes choices
+-- there is one word, which spells a number of 64 bits
+abbrev pub IsOneNumber : List (List ℕ) → ℕ → Type 0
+IsOneNumber [] number = ⊥
+IsOneNumber (word ∷ []) number = IsNumeral 64 word number
+IsOneNumber (word ∷ other ∷ words) number = ⊥
+
+-- what the words behind the program's name ask for: `check` and `oracle` stand alone, `steps` takes choices, `make` and `trial` one number
 abbrev pub AsksFor : List ℕ → List (List ℕ) → Command → Type 0
 AsksFor name words Check = (name ≡ codes "check") × (words ≡ [])
 AsksFor name words Oracle = (name ≡ codes "oracle") × (words ≡ [])
 AsksFor name words (Steps choices) = (name ≡ codes "steps") × AreChoices words choices
+AsksFor name words (Make number) = (name ≡ codes "make") × IsOneNumber words number
+AsksFor name words (Trial number) = (name ≡ codes "trial") × IsOneNumber words number
 
 -- a command line; the first word is the program's name, and isn't judged
 abbrev pub IsLine : List (List ℕ) → Command → Type 0

@@ -12,6 +12,8 @@ use Rattle.statement_reader.specs.declared.faults.ReadFault.TheVariants as reads
 use Rattle.run_record.specs.Headline.{Headline}
 use Rattle.run_record.specs.Text.{IsText}
 use Rattle.run_record.specs.declared.records.RunRecord.{RunRecord}
+use Rattle.record_text.specs.Summary.{IsSummary}
+use Rattle.script_maker.specs.Making.{made}
 use Rattle.driver_laws.specs.Scheduling.{Scheduled}
 use Rattle.step_world.specs.Runs.{AllCarried}
 use Rattle.step_world.specs.Tellings.{Telling}
@@ -19,24 +21,27 @@ use Rattle.nonstop_sql.specs.declared.commands.Command.{Command}
 use Rattle.nonstop_sql.specs.declared.commands.Command.TheVariants as command
 use Rattle.nonstop_sql.specs.declared.outcome.Outcome.{Outcome}
 
--- what was kept of a run has the headline; its acts are those that the choices picked, and its losses those that the wires told; and these bytes are its text
-pub record IsRun (choices : List ℕ) (wires : List Telling) (script : Script) (kept : RunRecord) (text : List ℕ) : Type 0 where
+-- what was kept of a run has the headline; its acts are those that the choices picked, and its losses those that the wires told
+pub record IsRun (choices : List ℕ) (wires : List Telling) (script : Script) (kept : RunRecord) : Type 0 where
   pub headline : Headline script kept
   pub scheduled : Scheduled choices kept
   pub carried : AllCarried wires kept
-  pub text_is : IsText script kept text
 
--- what a command makes of a script: the record of a run, if it makes one, and a text
+-- what a command makes of a script: the record of a run, if it makes one, and a text; `trial` runs it without choices
 abbrev pub Makes : Command → List Telling → Script → Option RunRecord → List ℕ → Type 0
 Makes command.Check wires script kept text = (kept ≡ None) × (text ≡ printed script)
 Makes command.Oracle wires script kept text = (kept ≡ None) × (text ≡ answer_text script)
-Makes (command.Steps choices) wires script kept text = IsSome kept × IfSome kept (λ k. IsRun choices wires script k text)
+Makes (command.Steps choices) wires script kept text = IsSome kept × IfSome kept (λ k. IsRun choices wires script k × IsText script k text)
+Makes (command.Make number) wires script kept text = (kept ≡ None) × (text ≡ printed script)
+Makes (command.Trial number) wires script kept text = IsSome kept × IfSome kept (λ k. IsRun [] wires script k × IsSummary script k text)
 
 -- whether it keeps the record of a run
 abbrev pub KeepsRecord : Command → Type 0
 KeepsRecord command.Check = ⊥
 KeepsRecord command.Oracle = ⊥
 KeepsRecord (command.Steps choices) = Unit {0}
+KeepsRecord (command.Make number) = ⊥
+KeepsRecord (command.Trial number) = Unit {0}
 
 -- it is done: the text that it made of the script is written
 abbrev pub IsDone : Command → List Telling → Option (List ℕ) → Option (List ℕ) → Option RunRecord → Script → Type 0
@@ -88,6 +93,30 @@ pub record EndsOnSource (bytes : List ℕ) (left' : Option (List ℕ)) (o : Outc
 abbrev pub WasRead : Option (List ℕ) → (Script → Type 0) → Type 0
 WasRead left P = (bytes : List ℕ) × IfSome left (λ told. told ≡ bytes) × Spelled bytes P
 
+-- the number that a command makes its script from; the others read theirs
+abbrev pub number_of : Command → Option ℕ
+number_of command.Check = None
+number_of command.Oracle = None
+number_of (command.Steps choices) = None
+number_of (command.Make number) = Some number
+number_of (command.Trial number) = Some number
+
+-- this holds of the script that is made from the number, or of the one that was read
+abbrev pub OnScript : Option ℕ → Option (List ℕ) → (Script → Type 0) → Type 0
+OnScript (Some number) left P = P (made number)
+OnScript None left P = WasRead left P
+
+-- where the script is made nothing is read, and so nothing refused
+pub record ReadsNothing (left left' : Option (List ℕ)) (faults faults' : ℕ) (o : Outcome) : Type 0 where
+  pub left_as_it_was : left' ≡ left
+  pub faults_as_they_were : faults' ≡ faults
+  pub reads_on : o.status ≢ 3
+  pub refuses_nothing : o.status ≢ 1
+
+abbrev pub ReadsScript : Option ℕ → Option (List ℕ) → Option (List ℕ) → ℕ → ℕ → Outcome → Type 0
+ReadsScript (Some number) left left' faults faults' o = ReadsNothing left left' faults faults' o
+ReadsScript None left left' faults faults' o = IfSome left (λ bytes. EndsOnSource bytes left' o)
+
 -- the whole: the bytes that the source had left, if it told them, and its faults come first
 pub record Ends (asked : Command) (wires : List Telling) (left left' : Option (List ℕ)) (read_faults read_faults' : ℕ) (taken taken' : Option (List ℕ)) (write_faults write_faults' : ℕ) (o : Outcome) : Type 0 where
   pub status : o.status ≤ 5
@@ -97,9 +126,9 @@ pub record Ends (asked : Command) (wires : List Telling) (left left' : Option (L
   pub read_failed : o.status ≡ 3 → Rose read_faults read_faults'
   pub write_failed : o.status ≡ 4 → Rose write_faults write_faults'
   pub unwritten : o.status ≢ 0 → o.status ≢ 4 → Keeps taken taken'
-  pub told : IfSome left (λ bytes. EndsOnSource bytes left' o)
-  pub done : o.status ≡ 0 → WasRead left (IsDone asked wires taken taken' o.kept)
-  pub cut : o.status ≡ 4 → WasRead left (IsCut asked wires taken taken')
+  pub told : ReadsScript (number_of asked) left left' read_faults read_faults' o
+  pub done : o.status ≡ 0 → OnScript (number_of asked) left (IsDone asked wires taken taken' o.kept)
+  pub cut : o.status ≡ 4 → OnScript (number_of asked) left (IsCut asked wires taken taken')
 
 -- how bytes end of which no script was read
 abbrev pub refusal_of : ReadFault → Outcome

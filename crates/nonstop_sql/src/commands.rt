@@ -1,6 +1,6 @@
 //! What the words of a command line ask for.
 ghost use Rattle.std.specs.Prelude.{◌≡◌, ◌≢◌, ℕ, List, [], map, string_bytes, nat_eq, get_or, Err, IfOk, IfSome, None};
-ghost use Rattle.nonstop_sql.specs.Commands.{AreChoices, IsChoice, IsCommand, IsNoCommand};
+ghost use Rattle.nonstop_sql.specs.Commands.{AreChoices, IsChoice, IsCommand, IsNoCommand, IsNumeral, IsOneNumber};
 ghost use Rattle.nonstop_sql.specs.declared.commands.Command.TheVariants as asked;
 ghost use Rattle.nonstop_sql.specs.declared.commands.WordsFault.TheVariants.{NoMemory, Refused};
 
@@ -19,6 +19,10 @@ pub enum Command {
     Oracle,
     /// To run the script step by step: each action is the one that a choice picks among those that are enabled.
     Steps { choices: List<u32> },
+    /// To print the script that is made from a number.
+    Make { number: u64 },
+    /// To run that script without choices, and print the summary of its record.
+    Trial { number: u64 },
 }
 
 /// Why words are no command line.
@@ -46,6 +50,14 @@ pub fn command_of(alloc: Global, words: &[String]) -> Result<Command, WordsFault
             "check" => alone(Command::Check, rest),
             "oracle" => alone(Command::Oracle, rest),
             "steps" => steps(alloc, rest),
+            "make" => match one_number(rest) {
+                Some(number) => Ok(Command::Make { number }),
+                None => Err(WordsFault::Refused),
+            },
+            "trial" => match one_number(rest) {
+                Some(number) => Ok(Command::Trial { number }),
+                None => Err(WordsFault::Refused),
+            },
             _ => Err(WordsFault::Refused),
         },
         _ => Err(WordsFault::Refused),
@@ -95,7 +107,32 @@ fn choice_of(word: &String) -> Option<u32>
     }
 }
 
-/// Whether the first byte is a plus sign, which `parse` reads and no choice has.
+/// The number of 64 bits that one word spells.
+fn one_number(words: &[String]) -> Option<u64>
+    ensures found { IfSome result (IsOneNumber (map string_bytes words.now)) }
+    ensures none { result ≡ None → (number : ℕ) → IsOneNumber (map string_bytes words.now) number → ⊥ }
+{
+    match words {
+        [word] => number_of(word),
+        _ => None,
+    }
+}
+
+/// The number of 64 bits that a word spells in digits alone.
+fn number_of(word: &String) -> Option<u64>
+    ensures found { IfSome result (IsNumeral 64 (string_bytes word.now)) }
+    ensures none { result ≡ None → (number : ℕ) → IsNumeral 64 (string_bytes word.now) number → ⊥ }
+{
+    if has_sign(word.as_bytes()) {
+        return None;
+    }
+    match word.as_str().parse::<u64>() {
+        Ok(number) => Some(number),
+        Err(_error) => None,
+    }
+}
+
+/// Whether the first byte is a plus sign, which `parse` reads and no number has.
 fn has_sign(word: &[u8]) -> bool
     ensures { result ≡ nat_eq (get_or word.now 0 0) 43 }
 {

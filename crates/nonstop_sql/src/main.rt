@@ -4,8 +4,9 @@
 ghost use Rattle.std.specs.Prelude.{◌≡◌, ◌≤◌, ◌⊎◌, ℕ, List, IfOk, IfSome};
 ghost use Rattle.run_record.specs.Headline.{Headline};
 ghost use Rattle.sql_base.specs.declared.scripts.Script.{Script};
+ghost use Rattle.script_maker.specs.Making.{made};
 ghost use Rattle.nonstop_sql.specs.Commands.{IsCommand, IsNoCommand};
-ghost use Rattle.nonstop_sql.specs.declared.commands.Command.TheVariants.{Steps};
+ghost use Rattle.nonstop_sql.specs.declared.commands.Command.TheVariants.{Steps, Trial};
 
 mod checks;
 mod commands;
@@ -43,6 +44,7 @@ fn outcome_of(rt: &HostRuntime, words: &[String]) -> Result<Outcome, NoMemory>
     ensures refuses { IsNoCommand words.now → IfOk result (λ outcome. (outcome.status ≡ 2) ⊎ (outcome.status ≡ 5)) }
     ensures ended { IfOk result (λ outcome. outcome.status ≤ 5) }
     ensures ran { (choices : List ℕ) → IsCommand words.now (Steps choices) → IfOk result (λ outcome. outcome.status ≡ 0 → (script : Script) × IfSome outcome.kept (Headline script)) }
+    ensures tried { (number : ℕ) → IsCommand words.now (Trial number) → IfOk result (λ outcome. outcome.status ≡ 0 → IfSome outcome.kept (Headline (made number))) }
 {
     let alloc = rt.alloc();
     let mut wires: Vec<Box<dyn Wire + Send>> = Vec::new(alloc);

@@ -1,9 +1,10 @@
 //! The top call: from the words, the source and the wires to the sink.
-ghost use Rattle.std.specs.Prelude.{◌≡◌, ◌≤◌, ◌<◌, ◌⊎◌, map, vec_len, IfOk};
+ghost use Rattle.std.specs.Prelude.{◌≡◌, ◌≤◌, ◌<◌, ◌⊎◌, map, vec_len, IfOk, None};
 ghost use Rattle.std.specs.Io.KnownBytes.{Keeps};
 ghost use Rattle.sql_base.specs.Scripts.{IsScript};
+ghost use Rattle.script_maker.specs.Making.{made};
 ghost use Rattle.nonstop_sql.specs.Commands.{IsCommand, IsNoCommand};
-ghost use Rattle.nonstop_sql.specs.Ends.{Ends, EndsOnBytes, Makes, Writes, refusal_of};
+ghost use Rattle.nonstop_sql.specs.Ends.{Ends, EndsOnBytes, Makes, Writes, number_of, refusal_of};
 ghost use Rattle.nonstop_sql.specs.declared.commands.Command.{Command as Asked};
 
 use crate::checks::PlainChecks;
@@ -13,8 +14,9 @@ use crate::outcome::Outcome;
 use crate::output::write_all;
 use one_thread::answer;
 use outside::{Collector, Gate, Sink, Source, Wire};
-use record_text::text;
+use record_text::{summary, text};
 use run_record::RunRecord;
+use script_maker::{made_scripts_meet_rules, make_script};
 use sql_base::{NoMemory, Script};
 use statement_printer::print_script;
 use statement_reader::{ReadFault, read_script};
@@ -67,6 +69,55 @@ pub fn run_alone<S: Source, K: Sink>(
     requires { 8 ≤ vec_len wires }
     ensures unseen { collectors.new ≡ collectors.old }
     ensures ran { Ends command.now (map (λ w. record { first = first w; round = round w }) wires.items) (S.left source.old) (S.left source.new) (S.faults source.old) (S.faults source.new) (K.taken sink.old) (K.taken sink.new) (K.faults sink.old) (K.faults sink.new) result }
+{
+    match number_of(command) {
+        Some(number) => run_made(alloc, command, number, sink, wires),
+        None => run_read(alloc, command, source, sink, wires),
+    }
+}
+
+/// The number that the command makes its script from, if it reads none.
+fn number_of(command: &Command) -> Option<u64>
+    ensures { result ≡ number_of command.now }
+{
+    match command {
+        Command::Make { number } => Some(*number),
+        Command::Trial { number } => Some(*number),
+        Command::Check => None,
+        Command::Oracle => None,
+        Command::Steps { .. } => None,
+    }
+}
+
+/// Runs the command on the script that is made from the number.
+fn run_made<K: Sink>(
+    alloc: Global,
+    command: &Command,
+    number: u64,
+    sink: &mut K,
+    wires: Vec<Box<dyn Wire + Send>>,
+) -> Outcome
+    requires { 8 ≤ vec_len wires }
+    ensures { Writes command.now (map (λ w. record { first = first w; round = round w }) wires.items) (made number) (K.taken sink.old) (K.taken sink.new) (K.faults sink.old) (K.faults sink.new) result }
+{
+    made_scripts_meet_rules();
+    match make_script(alloc, number) {
+        Ok(made) => run_script(alloc, command, &made, sink, wires),
+        Err(_) => Outcome::bare(5),
+    }
+}
+
+/// Runs the command on the script that the source has.
+fn run_read<S: Source, K: Sink>(
+    alloc: Global,
+    command: &Command,
+    source: &mut S,
+    sink: &mut K,
+    wires: Vec<Box<dyn Wire + Send>>,
+) -> Outcome
+    requires reads { number_of command.now ≡ None }
+    requires wires { 8 ≤ vec_len wires }
+    ensures { Ends command.now (map (λ w. record { first = first w; round = round w }) wires.items) (S.left source.old) (S.left source.new) (S.faults source.old) (S.faults source.new) (K.taken sink.old) (K.taken sink.new) (K.faults sink.old) (K.faults sink.new) result }
 {
     match read_to_limit(alloc, source) {
         Ok(bytes) => run_bytes(alloc, command, bytes.as_slice(), sink, wires),
@@ -145,6 +196,12 @@ fn make(
             let kept = drive(alloc, script, choices.items(), wires)?;
             let output = text(alloc, script, &kept)?;
             Ok((Some(kept), output))
+        }
+        Command::Make { .. } => Ok((None, print_script(alloc, script)?)),
+        Command::Trial { .. } => {
+            let kept = drive(alloc, script, &[], wires)?;
+            let summed = summary(alloc, script, &kept)?;
+            Ok((Some(kept), summed))
         }
     }
 }

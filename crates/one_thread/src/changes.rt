@@ -115,7 +115,9 @@ pub fn fails(checks: &[Expr], row: &[Value]) -> bool
 fn any_fails(checks: &[Expr], row: &[Value]) -> bool
     ensures { result ≡ list_any (λ check. is_some (check_fault 1 (val check row.now))) checks.now }
 {
-    checks.iter().any(|check| check_fault(check, row, 1).is_some())
+    checks
+        .iter()
+        .any(|check| check_fault(check, row, 1).is_some())
 }
 
 fn check_fault(check: &Expr, row: &[Value], number: u32) -> Option<Fault>

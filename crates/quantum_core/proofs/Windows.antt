@@ -54,4 +54,3 @@ pub end_key-has : (P : List ℕ → Type 0) (cells : List Cell) (key : List ℕ)
 end_key-has P [] key h e = absurd (cc)
 end_key-has P (cell ∷ []) key h e = let same : cell.key ≡ key = cc in subst P same h.0
 end_key-has P (cell ∷ other ∷ cells) key h e = end_key-has P (other ∷ cells) key h.1 e
-

@@ -189,7 +189,7 @@ module _ (r : Asker) (few : parts_of r.tables ≤ most_parts) (a : Attempt) (wor
   by_ending (Some abort) commit told h = undone (Some abort) told h.0 a.outcome (sym h.1)
   by_ending None false told h = undone None told h.0 a.outcome (sym h.1)
   by_ending None true told (inl c) =
-      let draws : drawn (joined a.parts ++ a.ending) ≡ Some stamp =
+      let draws : drawn (joined a.parts ++ a.ending) ≡ Some c.stamp =
       drawn-append (joined a.parts) a.ending (work-draws a.ordinal (joined a.parts) work) ∙ ap drawn c.ending_is ∙ drawn-append c.prepares _ (prepares-draw a.ordinal (touched r a) c.prepares c.floors c.prepared) in
       ap (λ o. outcome_by o (first_failure (joined a.parts ++ a.ending) (range_with_len 0 most_parts))) draws ∙ sym c.outcome_is
   by_ending None true told (inr l) =
@@ -205,11 +205,11 @@ module _ (r : Asker) (few : parts_of r.tables ≤ most_parts) (a : Attempt) (wor
       draws_all [] ys h k = k
       draws_all (x ∷ xs) ys h k = (h.0, draws_all xs ys h.1 k)
 
-      each : (j : ℕ) → last_failure j None (l.prepares ++ l.lost ∷ l.ends) ≡ cond (part == j) (Some PathLost) None
+      each : (j : ℕ) → last_failure j None (l.prepares ++ l.lost ∷ l.ends) ≡ cond (l.part == j) (Some PathLost) None
       each j =
           last-append j None l.prepares (l.lost ∷ l.ends) ∙ ap (λ x. last_failure j x (l.lost ∷ l.ends)) (prepares-last a.ordinal l.front l.prepares l.floors j l.prepared)
           ∙ ap (λ x. last_failure j x l.ends) (asked-any j None l.part (record { ordinal = a.ordinal; ask = ask.Prepare }) PathFailed l.lost refl l.lost_is)
-          ∙ ends-last a.ordinal ask.EndUndo (touched r a) l.ends j (cond (part == j) (Some PathLost) None) refl l.undone
+          ∙ ends-last a.ordinal ask.EndUndo (touched r a) l.ends j (cond (l.part == j) (Some PathLost) None) refl l.undone
 
 -- the outcome of an attempt
 pub outcome-read : (r : Asker) (a : Attempt) → parts_of r.tables ≤ most_parts → IsOwn r a → outcome_of (entries_of a) ≡ a.outcome

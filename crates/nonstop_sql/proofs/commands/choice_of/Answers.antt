@@ -1,15 +1,15 @@
 -- A choice is what `parse` gives of a word without a sign.
-use Rattle.std.proofs.Common.{◌≡◌, ℕ, List, get_or, nat_eq, false, ap, sym, ◌∙◌, subst}
+use Rattle.std.proofs.Common.{◌≡◌, get_or, nat_eq, false, ap, sym, ◌∙◌, subst}
 use Rattle.nonstop_sql.specs.Commands.{IsChoice}
-use Rattle.nonstop_sql.proofs.Choices.{is_choice, is_none}
+use Rattle.nonstop_sql.proofs.Choices.{is_none, is_numeral}
 use Rattle.nonstop_sql.proofs.commands.choice_of.Goals as goal
 
 pub returns-in-Ok-clause-found : goal.returns-in-Ok-clause-found
 returns-in-Ok-clause-found c =
     let unsigned : nat_eq (get_or c.as_str.result.now 0 0) 43 ≡ false = ap (λ w. nat_eq (get_or w 0 0) 43) (c.as_str.ensures.value ∙ sym c.as_bytes.ensures.value) ∙ sym c.has_sign.ensures ∙ c.if-has_sign.false in
-    subst (λ w. IsChoice w c.in-Ok.choice) c.as_str.ensures.value (is_choice c.as_str.result.now c.parse.result c.parse.ensures.value.0 unsigned c.in-Ok.choice c.in-Ok.is)
+    subst (λ w. IsChoice w c.in-Ok.choice) c.as_str.ensures.value (is_numeral 32 c.as_str.result.now c.parse.result c.parse.ensures.value.0 unsigned c.in-Ok.choice c.in-Ok.is)
 
 pub returns-in-Err-clause-none : goal.returns-in-Err-clause-none
 returns-in-Err-clause-none c = λ none choice is.
     let unsigned : nat_eq (get_or c.as_str.result.now 0 0) 43 ≡ false = ap (λ w. nat_eq (get_or w 0 0) 43) (c.as_str.ensures.value ∙ sym c.as_bytes.ensures.value) ∙ sym c.has_sign.ensures ∙ c.if-has_sign.false in
-    is_none c.as_str.result.now c.parse.result c.parse.ensures.value.0 unsigned c.in-Err._error c.in-Err.is choice (subst (λ w. IsChoice w choice) (sym c.as_str.ensures.value) is)
+    is_none 32 c.as_str.result.now c.parse.result c.parse.ensures.value.0 unsigned c.in-Err._error c.in-Err.is choice (subst (λ w. IsChoice w choice) (sym c.as_str.ensures.value) is)
