@@ -1,5 +1,4 @@
 -- What one request does to a partition.
--- Of the requests that carry code, those without a filter are covered: no code stands for an expression yet.
 use Rattle.std.specs.Prelude.{ℕ, List, [], ◌∷◌, length, map, filter, find, max, nat_eq, nat_le, nat_lt, ◌==◌, Option, Some, None, option_map, option_and_then, Bool, true, false, not, ◌&&◌, if◌then◌else◌}
 use Rattle.std.specs.List.{list_all, starts_with}
 use Rattle.sql_base.specs.Keys.{key_eq, key_le}
