@@ -9,7 +9,7 @@ use std::alloc::Global;
 use std::test::Fail;
 
 /// The room of a sink that takes all that these runs write.
-const AMPLE: usize = 2_000;
+const AMPLE: usize = 30_000;
 
 /// How the wires of a run answer.
 #[derive(Clone, Copy)]
@@ -32,7 +32,7 @@ struct Case {
     taken: &'static [&'static str],
 }
 
-const CASES: [Case; 13] = [
+const CASES: [Case; 16] = [
     Case {
         words: &["nsq", "oracle"],
         script: &[ACCOUNTS, "SESSION;", TAKE, GIVE, COMMIT, RICH, COMMIT],
@@ -235,6 +235,27 @@ const CASES: [Case; 13] = [
         taken: &[],
     },
     Case {
+        words: &["nsq", "make"],
+        script: &[],
+        paths: Paths::Carry,
+        status: 2,
+        taken: &[],
+    },
+    Case {
+        words: &["nsq", "make", "18446744073709551616"],
+        script: &[],
+        paths: Paths::Carry,
+        status: 2,
+        taken: &[],
+    },
+    Case {
+        words: &["nsq", "trial", "7", "7"],
+        script: &[],
+        paths: Paths::Carry,
+        status: 2,
+        taken: &[],
+    },
+    Case {
         words: &["nsq", "steps", "4294967296"],
         script: &["QUANTUM 2;", TABLE, LOAD, "SESSION;", SCAN, COMMIT],
         paths: Paths::Carry,
@@ -279,9 +300,18 @@ fn wires_of(alloc: Global, paths: Paths) -> Result<Vec<Box<dyn Wire + Send>>, No
 
 /// The status of a run, and what its sink took.
 fn ran(alloc: Global, case: &Case) -> Result<(u8, Vec<u8>), Fail> {
-    let words = words_of(alloc, case.words)?;
-    let wires = wires_of(alloc, case.paths)?;
-    let mut source = MemorySource::new(joined(alloc, case.script)?, Vec::new(alloc));
+    ran_on(alloc, case.words, joined(alloc, case.script)?, case.paths)
+}
+
+fn ran_on(
+    alloc: Global,
+    words: &[&str],
+    script: Vec<u8>,
+    paths: Paths,
+) -> Result<(u8, Vec<u8>), Fail> {
+    let words = words_of(alloc, words)?;
+    let wires = wires_of(alloc, paths)?;
+    let mut source = MemorySource::new(script, Vec::new(alloc));
     let mut sink = MemorySink::new(alloc, AMPLE, Vec::new(alloc))?;
     let mut collectors = Vec::new(alloc);
     let outcome = run(
@@ -326,5 +356,22 @@ fn runs_end_as_they_should(rt: HostRuntime) -> Result<(), Fail> {
             joined(rt.alloc(), case.taken)?.as_slice()
         );
     }
+    Ok(())
+}
+
+#[test]
+fn made_scripts_are_read_and_run(rt: HostRuntime) -> Result<(), Fail> {
+    let alloc = rt.alloc();
+    let (made_status, made) = ran_on(alloc, &["nsq", "make", "7"], Vec::new(alloc), Paths::Carry)?;
+    assert_eq!(rt; made_status, 0);
+    let script = made.as_slice().to_vec(alloc)?;
+    let (read_status, read) = ran_on(alloc, &["nsq", "check"], script, Paths::Carry)?;
+    assert_eq!(rt; read_status, 0);
+    assert_eq!(rt; read.as_slice(), made.as_slice());
+    let (status, tried) = ran_on(alloc, &["nsq", "trial", "7"], Vec::new(alloc), Paths::Carry)?;
+    assert_eq!(rt; status, 0);
+    let (_, again) = ran_on(alloc, &["nsq", "trial", "7"], Vec::new(alloc), Paths::Carry)?;
+    assert_eq!(rt; again.as_slice(), tried.as_slice());
+    assert_eq!(rt; tried.as_slice().starts_with(b"TXNS "), true);
     Ok(())
 }
