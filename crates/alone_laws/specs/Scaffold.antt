@@ -1,4 +1,4 @@
--- What proofs keep from step to step: nobody has to believe it.
+-- What proofs keep from step to step.
 pub mod Failing
 pub mod Served
 pub mod States

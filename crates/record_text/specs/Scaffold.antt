@@ -1,3 +1,3 @@
--- What proofs keep from step to step: nobody has to believe it.
+-- What proofs keep from step to step.
 pub mod Giving
 pub mod Reading

@@ -1,2 +1,2 @@
--- What proofs keep from step to step: nobody has to believe it.
+-- What proofs keep from step to step.
 pub mod Begins
