@@ -30,7 +30,7 @@ use Rattle.partition_laws.proofs.Steps.{Keeps-answered, Keeps-step}
 use Rattle.state_facts.proofs.Openings.{opened-fresh}
 use Rattle.record_laws.specs.SoFar.{LegalSoFar, way_of}
 use Rattle.record_laws.proofs.FitsSoFar.{IsFresh, fresh_from, zip_at}
-use Rattle.record_laws.specs.Scaffold.Standing.{PlansSuit}
+use Rattle.record_laws.specs.Suiting.{PlansSuit}
 use Rattle.record_laws.proofs.Joined.{sends_fit-so_far}
 use Rattle.record_laws.proofs.Lists.{all_at, all_joined, all_through, all_weaker}
 use Rattle.record_laws.proofs.Served.{served_all}

@@ -17,7 +17,7 @@ use Rattle.run_record.specs.Openings.{history_of, log_of, openings}
 use Rattle.run_record.specs.declared.records.Act.{Act}
 use Rattle.run_record.specs.declared.records.RunRecord.{RunRecord}
 use Rattle.record_laws.specs.SoFar.{LegalSoFar, way_of}
-use Rattle.record_laws.specs.Scaffold.Standing.{PlansSuit}
+use Rattle.record_laws.specs.Suiting.{PlansSuit}
 use Rattle.driver_laws.specs.Gathering.{Gathered}
 use Rattle.driver_laws.specs.Scheduling.{is_old, posted_of}
 use Rattle.driver_laws.specs.Moves.{IsNext, IsPosted, MayAnswer, next_drawn, nothing_yet, with_acts, with_drawn, with_entry, with_log, with_way}

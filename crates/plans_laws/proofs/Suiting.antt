@@ -27,7 +27,7 @@ use Rattle.session_grammar.specs.UnderWay.{UnderWay}
 use Rattle.run_record.specs.Tiles.{sents_of}
 use Rattle.run_record.specs.declared.records.RunRecord.{RunRecord}
 use Rattle.record_laws.specs.SoFar.{LegalSoFar, RepliesFit, SendsFit}
-use Rattle.record_laws.specs.Scaffold.Standing.{PlansSuit, Suits}
+use Rattle.record_laws.specs.Suiting.{PlansSuit, Suits}
 use Rattle.record_laws.proofs.Joined.{replies_fit-so_far, sends_fit-so_far}
 use Rattle.plans_laws.specs.Scaffold.Fits.{CarriesFilter, Fits}
 use Rattle.plans_laws.proofs.Plans.{FitsThere, plans_fit}

@@ -6,7 +6,7 @@ ghost use Rattle.sql_base.specs.declared.scripts.Script.{Script};
 ghost use Rattle.session_grammar.specs.UnderWay.{UnderWay};
 ghost use Rattle.run_record.specs.declared.records.RunRecord.{RunRecord};
 ghost use Rattle.record_laws.specs.SoFar.{LegalSoFar, RepliesFit, SendsFit};
-ghost use Rattle.record_laws.specs.Scaffold.Standing.{PlansSuit};
+ghost use Rattle.record_laws.specs.Suiting.{PlansSuit};
 ghost use Rattle.plans_laws.specs.Asked.{PlansSpelled};
 ghost use Rattle.plans_laws.specs.Spelled.{HistoriesSpelled, OpensSpelled, RepliesSpelled, StepsSpelled};
 

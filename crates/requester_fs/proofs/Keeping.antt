@@ -19,7 +19,8 @@ use Rattle.session_laws.proofs.Standing.{goes_on}
 use Rattle.requester_fs.specs.Asking.{Advances, Asking, next_at, places_of}
 use Rattle.requester_fs.specs.Lasting.{answers_left, left_at}
 use Rattle.requester_fs.specs.Scaffold.Stages.{IsStage, IsStand, Stands, doing_of, place_of, statements_of, trying_of, way_in, way_of}
-use Rattle.requester_fs.specs.Scaffold.Working.{IsWorking, working}
+use Rattle.requester_fs.specs.Scaffold.Working.{IsWorking}
+use Rattle.requester_fs.specs.Asking.{working}
 use Rattle.requester_fs.specs.declared.stages.Stage.{Stage}
 use Rattle.requester_fs.specs.declared.stages.Stage.TheVariants as stage
 use Rattle.requester_fs.specs.declared.stages.Stand.{Stand}

@@ -18,7 +18,7 @@ use Rattle.session_grammar.specs.declared.logs.LogEntry.{LogEntry}
 use Rattle.session_grammar.specs.declared.logs.LogEntry.TheVariants.{Asked, Drew}
 use Rattle.session_grammar.proofs.Readings.{follows-in_line}
 use Rattle.requester_fs.specs.Asking.{Asking, HasTaken, IsSame, next_at, places_of}
-use Rattle.requester_fs.specs.Scaffold.Working.{working}
+use Rattle.requester_fs.specs.Asking.{working}
 
 -- syncs count up
 pub behind_least : (n : ℕ) (log : List LogEntry) → n ≤ sync_behind n log

@@ -8,7 +8,7 @@ use Rattle.dp_messages.specs.declared.replies.Reply.TheVariants as reply
 use Rattle.dp_messages.specs.declared.requests.Ask.{Ask}
 use Rattle.dp_messages.specs.declared.requests.Ask.TheVariants.{Continue}
 use Rattle.session_grammar.specs.Follows.{follows}
-use Rattle.session_grammar.specs.Sessions.{Draws, Ends, Next, Sends}
+use Rattle.session_grammar.specs.Sessions.{Draws, Ends, Next, Sends, Working}
 use Rattle.session_grammar.specs.UnderWay.{Asks, Awaiting, Drawing, Sending, TakesAnswer, TakesStamp, UnderWay}
 use Rattle.session_grammar.specs.declared.logs.Answer.{Answer}
 use Rattle.session_grammar.specs.declared.logs.Answer.TheVariants.{PathFailed, Reply, Stamp}
@@ -81,3 +81,7 @@ spare_of above n ask = n
 abbrev pub Advances : (List ℕ → ℕ) → ℕ → Next → Answer → Type 0
 Advances above n (Sends part sync request) (Reply (reply.Redrive subset last cause rows changed)) = above last < spare_of above n request.ask
 Advances above n next answer = Unit {0}
+
+-- a session that does one thing after the other, as its script's session
+abbrev pub working : Asking → Working
+working a = record { limits = a.script.limits; number = a.number; log = a.log; next = next_at a.way 0 }

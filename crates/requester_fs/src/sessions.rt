@@ -8,10 +8,9 @@ ghost use Rattle.session_grammar.specs.Sessions.{IsSessionOf, MayCome, entries_k
 ghost use Rattle.session_grammar.specs.UnderWay.{Awaiting};
 ghost use Rattle.session_grammar.specs.declared.logs.Answer.TheVariants as came;
 ghost use Rattle.session_grammar.specs.declared.logs.LogEntry.{LogEntry as Entry};
-ghost use Rattle.requester_fs.specs.Asking.{Advances, HasTaken, IsAsking, IsSame, IsSpelled, next_at, places_of};
+ghost use Rattle.requester_fs.specs.Asking.{Advances, HasTaken, IsAsking, IsSame, IsSpelled, next_at, places_of, working};
 ghost use Rattle.requester_fs.specs.Scaffold.Stages.{way_in};
 ghost use Rattle.requester_fs.specs.Lasting.{answers_left};
-ghost use Rattle.requester_fs.specs.Scaffold.Working.{working};
 
 use crate::requesters::Requester;
 use crate::stages::{Stage, Stand};

@@ -80,12 +80,16 @@ EndsBy t history None = (last_ask t history ≡ Some EndUndo) × NoCommit t hist
 abbrev pub in_journal : RunRecord → TxnName → Option Drawn
 in_journal kept t = find (λ d. same_txn d.name t) kept.journal
 
+-- the claim holds of an attempt that a reading of the session's log shows
+abbrev pub ForAttempt : Script → RunRecord → ℕ → List Attempt → Attempt → Type 0 → Type 0
+ForAttempt script kept session attempts a Claim =
+    Lies 1 (length script.sessions) session → Reads IsPart (asker script session) (works_of script session) (log_of kept session) attempts → Contains attempts a → Claim
+
 pub record AttemptsEnded (script : Script) (kept : RunRecord) : Type 0 where
   pub ends : AllByRecursion (λ history. AllByRecursion (λ e. EndsBy (name_of e) history (in_journal kept (name_of e))) history) kept.histories
   -- an attempt in the journal committed, so none of its transaction follows it
-  pub committed : (session : ℕ) (attempts : List Attempt) (a : Attempt) (d : Drawn) → Lies 1 (length script.sessions) session
-      → Reads IsPart (asker script session) (works_of script session) (log_of kept session) attempts → Contains attempts a
-      → in_journal kept (record { session = session; ordinal = a.ordinal }) ≡ Some d → a.outcome ≡ Committed d.stamp
+  pub committed : (session : ℕ) (attempts : List Attempt) (a : Attempt) (d : Drawn)
+      → ForAttempt script kept session attempts a (in_journal kept (record { session = session; ordinal = a.ordinal }) ≡ Some d → a.outcome ≡ Committed d.stamp)
 
 -- the floor of a commit is at least each floor that a partition replied to it
 abbrev pub IsCovered : Drawn → Entry → Type 0

@@ -11,7 +11,7 @@ use Rattle.one_thread.specs.One.{Commits, Ran, loaded, one_run, run_work, world_
 use Rattle.session_grammar.specs.Plans.{Asker, plan_of}
 use Rattle.session_grammar.specs.Follows.{Attempt, Reads, IsPart, projection, asker, works_of}
 use Rattle.run_record.specs.Openings.{openings, log_of, by_part}
-use Rattle.run_record.specs.Legal.{in_journal}
+use Rattle.run_record.specs.Legal.{in_journal, ForAttempt}
 use Rattle.run_record.specs.Tiles.{reply_rows, reply_changed, sents_of}
 use Rattle.run_record.specs.Base.{base, base_of, by_table, changes}
 use Rattle.key_sequenced.specs.Changes.{laid}
@@ -87,10 +87,9 @@ abbrev pub final_records : Script → RunRecord → List (List (List Value))
 final_records script kept = by_table script.tables (by_part (λ p history. records (replay p history).cells) (openings script) kept.histories)
 
 pub record Serial (script : Script) (kept : RunRecord) : Type 0 where
-  pub committed_alone : (session : ℕ) (attempts : List Attempt) (a : Attempt) (d : Drawn) → Lies 1 (length script.sessions) session
-      → Reads IsPart (asker script session) (works_of script session) (log_of kept session) attempts → Contains attempts a
-      → in_journal kept (record { session = session; ordinal = a.ordinal }) ≡ Some d → AllByRecursion IsFirm a.work.statements
-      → RanAlone script kept session a d
+  pub committed_alone : (session : ℕ) (attempts : List Attempt) (a : Attempt) (d : Drawn)
+      → ForAttempt script kept session attempts a
+      (in_journal kept (record { session = session; ordinal = a.ordinal }) ≡ Some d → AllByRecursion IsFirm a.work.statements → RanAlone script kept session a d)
   pub final_base : final_records script kept ≡ (base script kept (next_stamp kept)).records
 
 -- ---- where the statements of all committed transactions are firm: those transactions in one thread, in stamp order

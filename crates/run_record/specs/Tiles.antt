@@ -33,6 +33,7 @@ use Rattle.session_grammar.specs.declared.logs.Answer.TheVariants.{Reply}
 use Rattle.session_grammar.specs.declared.logs.LogEntry.{LogEntry}
 use Rattle.session_grammar.specs.declared.logs.LogEntry.TheVariants.{Asked, Drew}
 use Rattle.run_record.specs.declared.records.RunRecord.{RunRecord}
+use Rattle.run_record.specs.Legal.{ForAttempt}
 
 -- the keys that an entry handled: from a start to an end that is included
 pub record Interval : Type 0 where
@@ -197,6 +198,5 @@ pub record IsFinished (script : Script) (session : ℕ) (a : Attempt) (statement
 -- every finished statement tiles its range
 abbrev pub FinishedTile : Script → RunRecord → Type 0
 FinishedTile script kept =
-    (session : ℕ) (attempts : List Attempt) (a : Attempt) (statement : Statement) (part : List LogEntry) → Lies 1 (length script.sessions) session
-    → Reads IsPart (asker script session) (works_of script session) (log_of kept session) attempts → Contains attempts a
-    → IsFinished script session a statement part → Tiles script kept session statement part
+    (session : ℕ) (attempts : List Attempt) (a : Attempt) (statement : Statement) (part : List LogEntry)
+    → ForAttempt script kept session attempts a (IsFinished script session a statement part → Tiles script kept session statement part)

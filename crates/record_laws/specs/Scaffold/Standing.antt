@@ -1,36 +1,22 @@
 -- What a partition keeps of a session, and where the session stands by it.
-use Rattle.std.specs.Prelude.{◌≡◌, ◌≤◌, ◌<◌, ◌⊎◌, ◌==◌, ◌-◌, ℕ, List, [], ◌∷◌, length, map, filter, slice_get, slice_set, Option, Some, None, option_map, Bool, true, not, ◌&&◌}
+use Rattle.std.specs.Prelude.{◌≡◌, ◌≤◌, ◌<◌, ◌⊎◌, ◌==◌, ◌-◌, ℕ, List, [], ◌∷◌, length, map, filter, slice_set, Option, Some, None, Bool, not}
 use Rattle.std.specs.List.{AllByRecursion}
 use Rattle.sql_base.specs.Locks.{same_txn}
-use Rattle.sql_base.specs.Rows.{kinds, key_of, key_width, unpacked}
 use Rattle.sql_base.specs.Scripts.{Lies}
 use Rattle.sql_base.specs.declared.key_ranges.Start.TheVariants.{After}
-use Rattle.sql_base.specs.Tables.{IsStatement}
 use Rattle.sql_base.specs.declared.lock_names.TxnName.{TxnName}
-use Rattle.sql_base.specs.declared.scripts.Script.{Script}
-use Rattle.sql_base.specs.declared.statements.Statement.{Statement}
-use Rattle.sql_base.specs.declared.values.Value.{Value}
 use Rattle.key_sequenced.specs.Cells.{AreCells}
 use Rattle.subset_blocks.specs.Blocks.{NumbersDiffer, advanced, closed, closed_of, find_block, free_number, opened}
 use Rattle.subset_blocks.specs.declared.Block.{Block}
 use Rattle.subset_blocks.specs.declared.Numbered.{Numbered}
-use Rattle.quantum_core.specs.declared.works.Doing.TheVariants.{Read, Update, Delete}
 use Rattle.quantum_core.specs.declared.works.SetWork.{SetWork}
 use Rattle.dp_messages.specs.declared.replies.Reply.{Reply as PartitionReply}
 use Rattle.dp_messages.specs.declared.replies.Reply.TheVariants as reply
 use Rattle.dp_messages.specs.declared.requests.Ask.{Ask}
-use Rattle.dp_messages.specs.declared.requests.Ask.TheVariants.{BeginRead, BeginUpdate, BeginDelete, Continue, ReadKey, Insert, LockGranule, Prepare, EndCommit, EndUndo}
-use Rattle.partition_state.specs.History.{replay}
+use Rattle.dp_messages.specs.declared.requests.Ask.TheVariants.{Continue, Prepare, EndCommit, EndUndo}
 use Rattle.partition_state.specs.State.{State, enlisted, floor_of, opener_of}
-use Rattle.partition_state.specs.Step.{Answered, are_columns_here, is_key_here, is_shaped, may_change, prepared, set_work}
-use Rattle.predicate_codes.specs.Decoding.{filter_of}
-use Rattle.predicate_codes.specs.SetLists.{sets_of}
+use Rattle.partition_state.specs.Step.{Answered, prepared}
 use Rattle.partition_state.specs.declared.lives.Live.{Live}
-use Rattle.session_grammar.specs.Follows.{asker}
-use Rattle.session_grammar.specs.Plans.{plan_of}
-use Rattle.run_record.specs.Openings.{history_of, openings}
-use Rattle.run_record.specs.declared.records.RunRecord.{RunRecord}
-use Rattle.run_record.specs.Tiles.{sents_of}
 use Rattle.record_laws.specs.Scaffold.Lanes.{Stand, Over, Between, Within, Ready, Stamped, Lost, Gone}
 
 -- its live transactions and its subsets
@@ -74,20 +60,6 @@ Stands v session (Stamped ordinal floor stamp) = (v.lives ≡ live session ordin
 Stands v session (Lost ordinal) = AllByRecursion (λ l. l.name ≡ name session ordinal) v.lives × AreFew session ordinal v.blocks × (v.ended < ordinal)
 Stands v session Gone = length v.blocks ≤ 1
 
--- a request with keys of the partition, and code that stands for something
-abbrev pub Suits : State → Ask → Type 0
-Suits p (BeginRead access granule range predicate columns) =
-    (work : SetWork) × ((are_columns_here p columns && is_shaped p range granule) ≡ true) × (set_work (filter_of p.table predicate) (Some (Read columns)) ≡ Some work)
-Suits p (BeginUpdate access granule range predicate sets) =
-    (work : SetWork) × ((may_change access && is_shaped p range granule) ≡ true) × (set_work (filter_of p.table predicate) (option_map Update (sets_of p.table sets)) ≡ Some work)
-Suits p (BeginDelete access granule range predicate) =
-    (work : SetWork) × ((may_change access && is_shaped p range granule) ≡ true) × (set_work (filter_of p.table predicate) (Some Delete) ≡ Some work)
-Suits p (ReadKey access key predicate columns) =
-    (work : SetWork) × ((is_key_here p key && are_columns_here p columns) ≡ true) × (set_work (filter_of p.table predicate) (Some (Read columns)) ≡ Some work)
-Suits p (Insert row) = (values : List Value) × (unpacked (kinds p.table) row ≡ Some values) × (is_key_here p (key_of p.table values) ≡ true)
-Suits p (LockGranule prefix mode) = length prefix ≤ key_width p.table
-Suits p other = Unit {0}
-
 -- the subsets after the first quantum of one, and after a further quantum of it
 abbrev pub Opens : State → TxnName → PartitionReply → List (Numbered SetWork) → Type 0
 Opens p t (reply.Redrive subset last cause rows changed) blocks =
@@ -123,21 +95,3 @@ pub record Orderly (p : State) : Type 0 where
   pub owners : AllByRecursion (λ b. Lies 1 8 b.block.holder.session) p.blocks
   pub livers : AllByRecursion (λ l. Lies 1 8 l.name.session) p.lives
   pub openers : length p.openers ≡ 8
-
--- what the statements of a script ask of a partition suits it
-abbrev pub PlansSuit : Script → Type 0
-PlansSuit script =
-    (session : ℕ) (statement : Statement) (part : ℕ) (p : State) → IsStatement script.tables statement → slice_get (openings script) part ≡ Some p
-    → AllByRecursion (λ sent. sent.part ≡ part → Suits p sent.ask) (sents_of (plan_of (asker script session) statement))
-
--- at the end no transaction is live in a partition, and no subset is under way
-abbrev pub NothingLive : Script → RunRecord → Type 0
-NothingLive script kept =
-    (part : ℕ) (p : State) → part < length kept.histories → slice_get (openings script) part ≡ Some p
-    → ((replay p (history_of kept part)).lives ≡ []) × ((replay p (history_of kept part)).blocks ≡ [])
-
--- and no cell has a writer
-abbrev pub NothingPends : Script → RunRecord → Type 0
-NothingPends script kept =
-    (part : ℕ) (p : State) → part < length kept.histories → slice_get (openings script) part ≡ Some p
-    → AllByRecursion (λ cell. cell.writer ≡ None) (replay p (history_of kept part)).cells

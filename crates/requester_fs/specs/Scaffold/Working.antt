@@ -3,10 +3,9 @@ use Rattle.std.specs.Prelude.{◌≡◌, ◌<◌, ◌^◌, ℕ, List, length, Op
 use Rattle.sql_base.specs.Scripts.{IsScript, Lies, parts_of}
 use Rattle.sql_base.specs.declared.scripts.Script.{Script}
 use Rattle.session_grammar.specs.Follows.{asker, works_of}
-use Rattle.session_grammar.specs.Sessions.{Working, sync_behind}
+use Rattle.session_grammar.specs.Sessions.{sync_behind}
 use Rattle.session_grammar.specs.declared.logs.LogEntry.{LogEntry}
 use Rattle.session_laws.specs.Scaffold.Leading.{StandsAt}
-use Rattle.requester_fs.specs.Asking.{Asking, next_at}
 use Rattle.requester_fs.specs.Scaffold.Stages.{IsStand, place_of}
 use Rattle.requester_fs.specs.declared.stages.Stand.{Stand}
 
@@ -19,7 +18,3 @@ pub record IsWorking (script : Script) (number parts : ℕ) (stand : Option Stan
   pub kept : IsStand (works_of script number) stand
   pub sync_is : sync ≡ sync_behind 1 log
   pub few : sync < 2 ^ 64
-
--- a session that does one thing after the other, as its script's session
-abbrev pub working : Asking → Working
-working a = record { limits = a.script.limits; number = a.number; log = a.log; next = next_at a.way 0 }

@@ -1,7 +1,7 @@
 use Rattle.std.proofs.Common.{◌≡◌, subst}
 use Rattle.session_grammar.specs.Sessions.{IsSessionOf}
 use Rattle.requester_fs.specs.Asking.{Asking, places_of}
-use Rattle.requester_fs.specs.Scaffold.Working.{working}
+use Rattle.requester_fs.specs.Asking.{working}
 use Rattle.requester_fs.proofs.Keeping.{exact, one}
 use Rattle.requester_fs.proofs.sessions.Session.next.Goals as goal
 
