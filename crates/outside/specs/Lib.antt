@@ -1,4 +1,5 @@
 pub mod Calls
+pub mod Collecting
 pub mod Counter
 pub mod Store
 pub mod Supply

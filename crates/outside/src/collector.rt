@@ -1,8 +1,7 @@
 //! What sees the entries of a log.
 
-ghost use Rattle.std.specs.Prelude.{◌≡◌, ℕ, List, ◌++◌, OnOk, OnErr};
+ghost use Rattle.std.specs.Prelude.{◌≡◌, ◌++◌, OnOk, OnErr};
 ghost use Rattle.std.specs.Io.{StartsWith};
-ghost use Rattle.outside.specs.declared.collector.Seen.{Seen};
 
 use crate::failure::NoMemory;
 
@@ -35,23 +34,19 @@ pub struct Seen {
 
 /// What sees the entries of a log one after another, and says a text of them.
 ///
-/// Contracts see its content, how an entry changes that, and the text of a content.
+/// Contracts see its content, how an entry changes that, and the text of a content. The last two never change.
 pub trait Collector: Drop {
-    ghost content: { Self → List ℕ };
+    ghost use Rattle.outside.specs.Collecting.{Collecting, behind, said};
 
-    ghost step: { Self → Seen → List ℕ → List ℕ };
-
-    ghost form: { Self → List ℕ → List ℕ };
+    ghost collecting: { Self → Collecting };
 
     /// Takes an entry into the content, or leaves the content as it is where memory is out.
     fn see(&mut self, entry: &Seen) -> Result<(), NoMemory>
-        ensures ok { OnOk result (content self.new ≡ step self.old entry.now (content self.old)) }
-        ensures err { OnErr result (content self.new ≡ content self.old) }
-        ensures same_step { step self.new ≡ step self.old }
-        ensures same_form { form self.new ≡ form self.old };
+        ensures ok { OnOk result (collecting self.new ≡ behind entry.now (collecting self.old)) }
+        ensures err { OnErr result (collecting self.new ≡ collecting self.old) };
 
     /// Appends the text of the content to `out`. After `NoMemory` a part of it may stand there.
     fn text(&self, out: &mut Vec<u8>) -> Result<(), NoMemory>
-        ensures ok { OnOk result (out.new.items ≡ out.old.items ++ form self.now (content self.now)) }
+        ensures ok { OnOk result (out.new.items ≡ out.old.items ++ said (collecting self.now)) }
         ensures err { OnErr result (StartsWith out.new.items out.old.items) };
 }

@@ -157,11 +157,11 @@ struct Requests {
 impl Collector for Requests {
     ghost use Rattle.std.specs.Prelude.{◌++◌, [], ◌∷◌};
 
-    ghost content = { λ collector. collector.requests.items };
-
-    ghost step = { λ _ entry content. content ++ entry.request ∷ [] };
-
-    ghost form = { λ collector content. content ++ collector.last ∷ [] };
+    ghost collecting = { λ collector. record {
+      content = collector.requests.items;
+      step = λ entry content. content ++ entry.request ∷ [];
+      form = λ content. content ++ collector.last ∷ [];
+    } };
 
     fn see(&mut self, entry: &Seen) -> Result<(), NoMemory> {
         self.requests.push(entry.request).map_err(AllocError::from)?;
