@@ -6,6 +6,7 @@ pub mod Runs
 pub mod Scans
 pub mod Sessions
 pub mod Statements
+pub mod Truths
 pub mod Values
 pub mod Windows
 pub mod Worlds

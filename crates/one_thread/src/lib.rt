@@ -13,6 +13,7 @@ mod scans;
 mod shown;
 mod statements;
 mod transactions;
+mod truths;
 mod values;
 mod worlds;
 

@@ -8,7 +8,7 @@ ghost use Rattle.sql_base.specs.Val.{filter_val};
 
 use crate::cells::Cell;
 use crate::changes::{fault_of, first_failing, updated};
-use crate::values::truth;
+use crate::truths::truth;
 use sql_base::{
     Abort, Assign, Expr, Fault, List, NoMemory, Packed, Row, Statement, TableDef, pack,
 };

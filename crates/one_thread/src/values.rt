@@ -1,8 +1,8 @@
 //! The value of an expression on a row, evaluated along its tree.
 
 ghost use Rattle.std.specs.Prelude.{◌≡◌, Ok, slice_get};
-ghost use Rattle.sql_base.specs.Val.{column_item, compared, computed, filter_val, val};
-ghost use Rattle.one_thread.specs.Scaffold.Values.{item_in, outcome_in, truth_of};
+ghost use Rattle.sql_base.specs.Val.{column_item, compared, computed, val};
+ghost use Rattle.one_thread.specs.Scaffold.Values.{item_in, outcome_in};
 
 use sql_base::{ArithOp, CompareOp, EvalFault, Expr, Value, compare_texts, compute, holds};
 
@@ -35,7 +35,8 @@ fn calculated<'a>(op: ArithOp, a: Item<'a>, b: Item<'a>) -> Result<Item<'a>, Eva
     }
 }
 
-fn compared<'a>(op: CompareOp, a: Item<'a>, b: Item<'a>) -> Result<Item<'a>, EvalFault>
+/// What a comparison of two items gives.
+pub fn compared<'a>(op: CompareOp, a: Item<'a>, b: Item<'a>) -> Result<Item<'a>, EvalFault>
     ensures { outcome_in result ≡ compared op (item_in a.entry) (item_in b.entry) }
 {
     match a {
@@ -104,21 +105,6 @@ pub fn value<'a>(expr: &'a Expr, row: &'a [Value]) -> Result<Item<'a>, EvalFault
             Item::Number(_) => Ok(Item::Nothing),
             Item::Text(_) => Ok(Item::Nothing),
             Item::Nothing => Ok(Item::Nothing),
-        },
-    }
-}
-
-/// Whether the predicate is true on the row, or its fault. An absent one is true.
-pub fn truth(filter: &Option<Expr>, row: &[Value]) -> Result<bool, EvalFault>
-    ensures { result ≡ truth_of (filter_val filter.now row.now) }
-{
-    match filter {
-        None => Ok(true),
-        Some(expr) => match value(expr, row)? {
-            Item::Truth(truth) => Ok(truth),
-            Item::Number(_) => Ok(false),
-            Item::Text(_) => Ok(false),
-            Item::Nothing => Ok(false),
         },
     }
 }

@@ -1,0 +1,153 @@
+//! Whether a predicate is true on a row. Numbers and truth values are handed on by themselves, which a scan feels.
+
+ghost use Rattle.std.specs.Prelude.{◌≡◌, slice_get};
+ghost use Rattle.sql_base.specs.Val.{both, column_item, compared, computed, filter_val, val, IsNumber};
+ghost use Rattle.one_thread.specs.Scaffold.Values.{outcome_in, truth_of};
+ghost use Rattle.one_thread.specs.Scaffold.Truths.{Judges, TellsNumber};
+
+use crate::values::{Item, compared, value};
+use sql_base::{ArithOp, CompareOp, EvalFault, Expr, Value, compute, holds};
+
+/// The number that an expression gives.
+#[derive(Clone, Copy, Debug)]
+pub enum Number {
+    Is(i64),
+    Fails(EvalFault),
+    /// The expression isn't made of numbers alone, and nothing is known of its value.
+    Other,
+}
+
+/// Whether an expression is true.
+#[derive(Clone, Copy, Debug)]
+pub enum Verdict {
+    Is(bool),
+    Fails(EvalFault),
+    /// It gives no truth value.
+    Other,
+}
+
+fn column_number(row: &[Value], column: u8) -> Number
+    ensures { TellsNumber result (column_item (slice_get row.now column)) }
+{
+    match row.get(column as usize) {
+        Some(Value::Int(number)) => Number::Is(*number),
+        Some(Value::Text(_)) => Number::Other,
+        None => Number::Other,
+    }
+}
+
+fn made_number(op: ArithOp, x: i64, y: i64) -> Number
+    ensures { TellsNumber result (computed op (IsNumber x) (IsNumber y)) }
+{
+    match compute(op, x, y) {
+        Ok(number) => Number::Is(number),
+        Err(fault) => Number::Fails(fault),
+    }
+}
+
+// The number of the expression on the row, without the detour over texts and truth values.
+fn number_on(expr: &Expr, row: &[Value]) -> Number
+    ensures { TellsNumber result (val expr.now row.now) }
+{
+    match expr {
+        Expr::Number(number) => Number::Is(*number),
+        Expr::Column(column) => column_number(row, *column),
+        Expr::Arith(op, a, b) => match number_on(a.get(), row) {
+            Number::Is(x) => match number_on(b.get(), row) {
+                Number::Is(y) => made_number(*op, x, y),
+                Number::Fails(fault) => Number::Fails(fault),
+                Number::Other => Number::Other,
+            },
+            Number::Fails(fault) => Number::Fails(fault),
+            Number::Other => Number::Other,
+        },
+        Expr::Text(_) => Number::Other,
+        Expr::Compare(_, _, _) => Number::Other,
+        Expr::And(_, _) => Number::Other,
+        Expr::Or(_, _) => Number::Other,
+        Expr::Not(_) => Number::Other,
+    }
+}
+
+fn verdict_in(came: Result<Item<'_>, EvalFault>) -> Verdict
+    ensures { Judges result (outcome_in came.entry) }
+{
+    match came {
+        Ok(Item::Truth(truth)) => Verdict::Is(truth),
+        Ok(Item::Number(_)) => Verdict::Other,
+        Ok(Item::Text(_)) => Verdict::Other,
+        Ok(Item::Nothing) => Verdict::Other,
+        Err(fault) => Verdict::Fails(fault),
+    }
+}
+
+fn compare_items(op: CompareOp, a: &Expr, b: &Expr, row: &[Value]) -> Verdict
+    ensures { Judges result (both (compared op) (val a.now row.now) (val b.now row.now)) }
+{
+    match value(a, row) {
+        Ok(left) => match value(b, row) {
+            Ok(right) => verdict_in(compared(op, left, right)),
+            Err(fault) => Verdict::Fails(fault),
+        },
+        Err(fault) => Verdict::Fails(fault),
+    }
+}
+
+// A comparison. What isn't made of numbers alone is compared by its values.
+fn compare(op: CompareOp, a: &Expr, b: &Expr, row: &[Value]) -> Verdict
+    ensures { Judges result (both (compared op) (val a.now row.now) (val b.now row.now)) }
+{
+    match number_on(a, row) {
+        Number::Is(x) => match number_on(b, row) {
+            Number::Is(y) => Verdict::Is(holds(op, x.cmp(&y))),
+            Number::Fails(fault) => Verdict::Fails(fault),
+            Number::Other => compare_items(op, a, b, row),
+        },
+        Number::Fails(fault) => Verdict::Fails(fault),
+        Number::Other => compare_items(op, a, b, row),
+    }
+}
+
+// Whether the expression is true on the row.
+fn judge(expr: &Expr, row: &[Value]) -> Verdict
+    ensures { Judges result (val expr.now row.now) }
+{
+    match expr {
+        Expr::Compare(op, a, b) => compare(*op, a.get(), b.get(), row),
+        Expr::And(a, b) => match judge(a.get(), row) {
+            Verdict::Is(true) => judge(b.get(), row),
+            Verdict::Is(false) => Verdict::Is(false),
+            Verdict::Fails(fault) => Verdict::Fails(fault),
+            Verdict::Other => Verdict::Other,
+        },
+        Expr::Or(a, b) => match judge(a.get(), row) {
+            Verdict::Is(false) => judge(b.get(), row),
+            Verdict::Is(true) => Verdict::Is(true),
+            Verdict::Fails(fault) => Verdict::Fails(fault),
+            Verdict::Other => Verdict::Other,
+        },
+        Expr::Not(a) => match judge(a.get(), row) {
+            Verdict::Is(truth) => Verdict::Is(!truth),
+            Verdict::Fails(fault) => Verdict::Fails(fault),
+            Verdict::Other => Verdict::Other,
+        },
+        Expr::Number(_) => Verdict::Other,
+        Expr::Text(_) => Verdict::Other,
+        Expr::Column(_) => verdict_in(value(expr, row)),
+        Expr::Arith(_, _, _) => verdict_in(value(expr, row)),
+    }
+}
+
+/// Whether the predicate is true on the row, or its fault. An absent one is true.
+pub fn truth(filter: &Option<Expr>, row: &[Value]) -> Result<bool, EvalFault>
+    ensures { result ≡ truth_of (filter_val filter.now row.now) }
+{
+    match filter {
+        None => Ok(true),
+        Some(expr) => match judge(expr, row) {
+            Verdict::Is(truth) => Ok(truth),
+            Verdict::Fails(fault) => Err(fault),
+            Verdict::Other => Ok(false),
+        },
+    }
+}
