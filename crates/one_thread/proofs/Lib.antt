@@ -1,9 +1,11 @@
+pub mod Columns
 pub mod Lines
 pub mod Tables
 pub mod Numbers
 mod WorkedRows
 pub mod Failing
 pub mod Written
+pub mod Told
 pub mod Rising
 pub mod Passing
 pub mod Parts

@@ -1,5 +1,6 @@
 -- What proofs keep from step to step.
 pub mod Cells
+pub mod Columns
 pub mod Inserting
 pub mod Loading
 pub mod Runs

@@ -1,5 +1,6 @@
 //! The text of a run.
 
+mod columns;
 mod lines;
 mod results;
 mod words;

@@ -1,7 +1,7 @@
 //! Whether a predicate is true on a row. Numbers and truth values are handed on by themselves, which a scan feels.
 
 ghost use Rattle.std.specs.Prelude.{◌≡◌, slice_get};
-ghost use Rattle.sql_base.specs.Val.{both, column_item, compared, computed, filter_val, val, IsNumber};
+ghost use Rattle.sql_base.specs.Val.{both, column_item, compared, computed, filter_val, val, IsNumber, Outcome};
 ghost use Rattle.one_thread.specs.Scaffold.Values.{outcome_in, truth_of};
 ghost use Rattle.one_thread.specs.Scaffold.Truths.{Judges, TellsNumber};
 
@@ -45,6 +45,41 @@ fn made_number(op: ArithOp, x: i64, y: i64) -> Number
     }
 }
 
+// What an operator makes of its operands. The fault of the left one comes first.
+fn made_of(op: ArithOp, left: Number, right: Number) -> Number
+    ensures { (a : Outcome) (b : Outcome) → TellsNumber left a → TellsNumber right b → TellsNumber result (both (computed op) a b) }
+{
+    match left {
+        Number::Is(x) => match right {
+            Number::Is(y) => made_number(op, x, y),
+            Number::Fails(fault) => Number::Fails(fault),
+            Number::Other => Number::Other,
+        },
+        Number::Fails(fault) => Number::Fails(fault),
+        Number::Other => Number::Other,
+    }
+}
+
+// The number of a literal or a column, which most operands are.
+fn plain_number(expr: &Expr, row: &[Value]) -> Number
+    ensures { TellsNumber result (val expr.now row.now) }
+{
+    match expr {
+        Expr::Number(number) => Number::Is(*number),
+        Expr::Column(column) => column_number(row, *column),
+        Expr::Arith(_, _, _) => Number::Other,
+        Expr::Text(_) => Number::Other,
+        Expr::Compare(_, _, _) => Number::Other,
+        Expr::And(_, _) => Number::Other,
+        Expr::Or(_, _) => Number::Other,
+        Expr::Not(_) => Number::Other,
+    }
+}
+
+fn is_computed(expr: &Expr) -> bool {
+    matches!(expr, Expr::Arith(_, _, _))
+}
+
 // The number of the expression on the row, without the detour over texts and truth values.
 fn number_on(expr: &Expr, row: &[Value]) -> Number
     ensures { TellsNumber result (val expr.now row.now) }
@@ -52,14 +87,11 @@ fn number_on(expr: &Expr, row: &[Value]) -> Number
     match expr {
         Expr::Number(number) => Number::Is(*number),
         Expr::Column(column) => column_number(row, *column),
-        Expr::Arith(op, a, b) => match number_on(a.get(), row) {
-            Number::Is(x) => match number_on(b.get(), row) {
-                Number::Is(y) => made_number(*op, x, y),
-                Number::Fails(fault) => Number::Fails(fault),
-                Number::Other => Number::Other,
-            },
-            Number::Fails(fault) => Number::Fails(fault),
-            Number::Other => Number::Other,
+        Expr::Arith(op, a, b) => match (is_computed(a.get()), is_computed(b.get())) {
+            (true, true) => made_of(*op, number_on(a.get(), row), number_on(b.get(), row)),
+            (true, false) => made_of(*op, number_on(a.get(), row), plain_number(b.get(), row)),
+            (false, true) => made_of(*op, plain_number(a.get(), row), number_on(b.get(), row)),
+            (false, false) => made_of(*op, plain_number(a.get(), row), plain_number(b.get(), row)),
         },
         Expr::Text(_) => Number::Other,
         Expr::Compare(_, _, _) => Number::Other,

@@ -3,7 +3,7 @@ ghost use Rattle.std.specs.Prelude.{◌≡◌, ◌<◌, ◌++◌, ◌∷◌, [],
 ghost use Rattle.one_thread.specs.Text.{hex_digit, int_text, key_text, quoted, value_text};
 
 use itoa::Buffer;
-use sql_base::{Key, NoMemory, Text, Value};
+use sql_base::{Key, NoMemory, Value};
 
 /// Adds a blank and the number in decimal.
 pub fn put_number(out: &mut Vec<u8>, number: u64) -> Result<(), NoMemory>
@@ -51,11 +51,12 @@ fn put_value(out: &mut Vec<u8>, value: &Value) -> Result<(), NoMemory>
     out.push(b' ')?;
     match value {
         Value::Int(number) => put_int(out, *number),
-        Value::Text(text) => put_text(out, text),
+        Value::Text(text) => put_text(out, text.bytes()),
     }
 }
 
-fn put_int(out: &mut Vec<u8>, number: i64) -> Result<(), NoMemory>
+/// Adds the number in decimal.
+pub fn put_int(out: &mut Vec<u8>, number: i64) -> Result<(), NoMemory>
     ensures { OnOk result (out.new.items ≡ out.old.items ++ int_text number) }
 {
     let mut digits = Buffer::new();
@@ -63,11 +64,12 @@ fn put_int(out: &mut Vec<u8>, number: i64) -> Result<(), NoMemory>
     Ok(())
 }
 
-fn put_text(out: &mut Vec<u8>, text: &Text) -> Result<(), NoMemory>
+/// Adds the text between quotes.
+pub fn put_text(out: &mut Vec<u8>, text: &[u8]) -> Result<(), NoMemory>
     ensures { OnOk result (out.new.items ≡ out.old.items ++ 0x27 ∷ flat_map quoted text.now ++ 0x27 ∷ []) }
 {
     out.push(b'\'')?;
-    for byte in text.bytes() {
+    for byte in text {
         put_quoted(out, *byte)?;
     }
     out.push(b'\'')?;
