@@ -6,6 +6,7 @@ mod WorkedRows
 pub mod Failing
 pub mod Written
 pub mod Told
+pub mod Ending
 pub mod Rising
 pub mod Passing
 pub mod Parts

@@ -7,6 +7,7 @@ pub mod Runs
 pub mod Scans
 pub mod Sessions
 pub mod Statements
+pub mod Touched
 pub mod Truths
 pub mod Values
 pub mod Windows

@@ -12,6 +12,7 @@ mod printing;
 mod scans;
 mod shown;
 mod statements;
+mod touched;
 mod transactions;
 mod truths;
 mod values;

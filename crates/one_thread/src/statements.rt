@@ -1,21 +1,24 @@
 //! One statement at the cells of its table.
 
 ghost use Rattle.std.specs.Prelude.{◌≡◌, ◌≤◌, length, slice_get, IfOk};
-ghost use Rattle.sql_base.specs.Rows.{chosen, kinds};
+ghost use Rattle.sql_base.specs.Rows.{chosen, kinds, IsRow};
 ghost use Rattle.sql_base.specs.Tables.{AreColumns, IsTable, SuitsTable};
 ghost use Rattle.range_finder.specs.Range.{range};
 ghost use Rattle.one_thread.specs.Scaffold.Cells.{now_of, AreCells};
 ghost use Rattle.one_thread.specs.One.{predicate_of};
 ghost use Rattle.one_thread.specs.Scaffold.Scans.{ChangesIn, ReadsIn};
+ghost use Rattle.one_thread.specs.Scaffold.Inserting.{Inserts};
 ghost use Rattle.one_thread.specs.Scaffold.Statements.{Changing, Does, Selects};
+ghost use Rattle.one_thread.specs.Scaffold.Touched.{AreSame};
 
 use crate::cells::Cell;
 use crate::inserting::insert_row;
 use crate::places::window_of;
 use crate::scans::{change_cells, push_some, read_cells};
+use crate::touched::{Touched, everywhere, widened};
 use key_ranges::key_range;
 use sql_base::{
-    Abort, ColumnKind, Expr, Given, KeyRange, List, NoMemory, Packed, Statement, TableDef,
+    Abort, ColumnKind, Expr, Given, KeyRange, List, NoMemory, Packed, Row, Statement, TableDef,
 };
 use std::alloc::Global;
 
@@ -47,12 +50,15 @@ fn change_range(
     statement: &Statement,
     range: &Option<KeyRange>,
     cells: &mut [Cell],
+    touched: &mut Touched,
 ) -> Result<Result<u64, Abort>, NoMemory>
     requires few { length table.now.checks ≤ 8 }
     requires now { AreCells table.now now_of cells.now }
-    ensures { IfOk result (λ came. ChangesIn table.now statement.now range.now cells.old cells.new came) }
+    ensures changes { IfOk result (λ came. ChangesIn table.now statement.now range.now cells.old cells.new came) }
+    ensures same { AreSame touched.old.first touched.old.end cells.old → AreSame touched.new.first touched.new.end cells.new }
 {
     let window = window_of(cells, range);
+    *touched = widened(*touched, window);
     let count = window.end - window.first;
     let (_, from) = cells.split_at_mut(window.first);
     let (inside, _) = from.split_at_mut(count);
@@ -85,16 +91,18 @@ fn change(
     statement: &Statement,
     filter: &Option<Expr>,
     cells: &mut [Cell],
+    touched: &mut Touched,
 ) -> Result<Result<Given, Abort>, NoMemory>
     requires table { IsTable table.now }
     requires change { Changing statement.now }
     requires predicate { filter.now ≡ predicate_of statement.now }
     requires suits { SuitsTable table.now statement.now }
     requires now { AreCells table.now now_of cells.now }
-    ensures { IfOk result (λ came. Does table.now statement.now cells.old cells.new came) }
+    ensures does { IfOk result (λ came. Does table.now statement.now cells.old cells.new came) }
+    ensures same { AreSame touched.old.first touched.old.end cells.old → AreSame touched.new.first touched.new.end cells.new }
 {
     let range = key_range(alloc, filter.as_ref(), table)?;
-    match change_range(alloc, table, statement, &range, cells)? {
+    match change_range(alloc, table, statement, &range, cells, touched)? {
         Ok(count) => Ok(Ok(Given::Count(count))),
         Err(abort) => Ok(Err(abort)),
     }
@@ -123,17 +131,39 @@ fn select(
     }
 }
 
+// An INSERT, behind which the places of the cells may be others.
+fn insert(
+    alloc: Global,
+    table: &TableDef,
+    row: &Row,
+    cells: &mut Vec<Cell>,
+    touched: &mut Touched,
+) -> Result<Result<(), Abort>, NoMemory>
+    requires few { length table.now.checks ≤ 8 }
+    requires row { IsRow table.now row.now }
+    requires key { AreColumns table.now table.now.key }
+    requires now { AreCells table.now now_of cells.now.items }
+    ensures inserts { IfOk result (λ came. Inserts table.now row.now cells.old.items cells.new.items came) }
+    ensures same { AreSame touched.new.first touched.new.end cells.new.items }
+{
+    let came = insert_row(alloc, table, cells, row);
+    *touched = everywhere(cells.len());
+    came
+}
+
 /// Runs the statement, and gives what it gives or why it aborts its transaction.
 pub fn run_statement(
     alloc: Global,
     table: &TableDef,
     statement: &Statement,
     cells: &mut Vec<Cell>,
+    touched: &mut Touched,
 ) -> Result<Result<Given, Abort>, NoMemory>
     requires table { IsTable table.now }
     requires suits { SuitsTable table.now statement.now }
     requires now { AreCells table.now now_of cells.now.items }
-    ensures { IfOk result (λ came. Does table.now statement.now cells.old.items cells.new.items came) }
+    ensures does { IfOk result (λ came. Does table.now statement.now cells.old.items cells.new.items came) }
+    ensures same { AreSame touched.old.first touched.old.end cells.old.items → AreSame touched.new.first touched.new.end cells.new.items }
 {
     match statement {
         Statement::Select {
@@ -142,12 +172,26 @@ pub fn run_statement(
             ..
         } => select(alloc, table, columns.items(), filter, cells.as_slice()),
         Statement::Update { filter, .. } => {
-            change(alloc, table, statement, filter, cells.as_mut_slice())
+            change(
+                alloc,
+                table,
+                statement,
+                filter,
+                cells.as_mut_slice(),
+                touched,
+            )
         }
         Statement::Delete { filter, .. } => {
-            change(alloc, table, statement, filter, cells.as_mut_slice())
+            change(
+                alloc,
+                table,
+                statement,
+                filter,
+                cells.as_mut_slice(),
+                touched,
+            )
         }
-        Statement::Insert { row, .. } => match insert_row(alloc, table, cells, row)? {
+        Statement::Insert { row, .. } => match insert(alloc, table, row, cells, touched)? {
             Ok(()) => Ok(Ok(Given::Silent)),
             Err(abort) => Ok(Err(abort)),
         },

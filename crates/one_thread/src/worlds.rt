@@ -7,9 +7,10 @@ ghost use Rattle.one_thread.specs.Scaffold.Cells.{ended, now_of, nows, AreCells}
 ghost use Rattle.one_thread.specs.Scaffold.Statements.{Does};
 ghost use Rattle.one_thread.specs.Scaffold.Worlds.{AreAll, Moves};
 
-use crate::cells::{Cell, end_all};
+use crate::cells::Cell;
 use crate::scans::push_some;
 use crate::statements::run_statement;
+use crate::touched::{Touched, end_touched, everywhere, nowhere};
 use sql_base::{Abort, Given, List, NoMemory, Row, Statement, TableDef};
 use std::alloc::Global;
 use std::marker::Model;
@@ -18,22 +19,28 @@ use std::marker::Model;
 #[derive(Debug, Drop)]
 pub struct Records {
     cells: Vec<Cell>,
+    // Which of them the transaction may have changed.
+    touched: Touched,
 }
 
 impl Model for Records {
     ghost use Rattle.std.specs.Prelude.{List};
     ghost use Rattle.one_thread.specs.declared.cells.Cell as cell;
+    ghost use Rattle.one_thread.specs.Scaffold.Touched.{AreSame};
 
     ghost Value = { List cell.Cell };
 
     ghost view = { λ records. records.cells.items };
+
+    ghost invariant = { λ records. AreSame records.touched.first records.touched.end records.cells.items };
 }
 
 impl Records {
     pub fn from_cells(cells: Vec<Cell>) -> Records
         ensures { result ≡ cells.items }
     {
-        Records { cells }
+        let touched = everywhere(cells.len());
+        Records { cells, touched }
     }
 
     /// Runs a statement on the table of these records.
@@ -48,14 +55,15 @@ impl Records {
         requires now { AreCells table.now now_of self.now }
         ensures { IfOk result (λ came. Does table.now statement.now self.old self.new came) }
     {
-        run_statement(alloc, table, statement, &mut self.cells)
+        run_statement(alloc, table, statement, &mut self.cells, &mut self.touched)
     }
 
     /// Ends the transaction.
     fn end(&mut self, commit: bool)
         ensures { self.new ≡ map (ended commit) self.old }
     {
-        end_all(self.cells.as_mut_slice(), commit);
+        end_touched(&mut self.cells, self.touched, commit);
+        self.touched = nowhere();
     }
 
     /// Copies of the records alone.
