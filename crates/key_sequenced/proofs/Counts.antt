@@ -1,6 +1,6 @@
 -- How many cells stand before a place.
-use Rattle.std.proofs.Common.{◌≡◌, ℕ, zero, suc, ◌+◌, ◌<◌, ◌≤◌, List, [], ◌∷◌, length, not, Bool, true, false, cond, Option, Some, None, slice_index_or, refl, ap, sym, ◌∙◌, arith}
-use Rattle.std.specs.Prelude.{find, slice_get, if◌then◌else◌}
+use Rattle.std.proofs.Common.{◌≡◌, ℕ, zero, suc, ◌<◌, ◌≤◌, List, [], ◌∷◌, length, Bool, true, false, Option, Some, None, slice_index_or, refl, ap, sym, ◌∙◌, arith}
+use Rattle.std.specs.Prelude.{slice_get, if◌then◌else◌}
 use Rattle.std.specs.List.{prefix_len}
 use Rattle.std.specs.List.Sorted.{IsPartitionPoint, IsPartitionedBy}
 use Rattle.std.specs.Cmp.Lexicographic.{slice_cmp}
@@ -9,13 +9,12 @@ use Rattle.std.specs.declared.cmp.Ordering.{Ordering}
 use Rattle.std.specs.declared.cmp.Ordering.TheVariants.{Less, Equal, Greater}
 use Rattle.std.proofs.lemmas.Bool.{false≢true}
 use Rattle.std.proofs.lemmas.Cmp.{nat_list_cmp_total}
-use Rattle.std.proofs.lemmas.List.Folds.{find_at}
 use Rattle.std.proofs.lemmas.List.Sums.{prefix_len_is}
-use Rattle.sql_base.specs.Keys.{key_lt, key_le, key_eq}
+use Rattle.sql_base.specs.Keys.{key_lt, key_eq}
 use Rattle.key_sequenced.specs.Cells.{AreCells, find_cell}
 use Rattle.key_sequenced.specs.Files.{is_key_of}
 use Rattle.key_sequenced.specs.declared.Cell.{Cell}
-use Rattle.sql_base.proofs.KeyOrders.{key_le-not_lt, lt-trans}
+use Rattle.sql_base.proofs.KeyOrders.{lt-trans}
 use Rattle.sql_base.proofs.Truths.{plus-one}
 use Rattle.sql_base.proofs.Orderings.{less-is}
 
@@ -32,6 +31,9 @@ first-below c [] h j d lt = absurd (omega arith)
 first-below c (x ∷ cells) h zero d lt = h.0
 first-below c (x ∷ cells) h (suc j) d lt = first-below c cells (cells-without c x cells h) j d (omega arith)
 
+pub no_cell : Cell
+no_cell = record { key = []; now = None; was = None; writer = None }
+
 -- a test that holds below each key at which it holds splits the cells
 pub parted : (q : List ℕ → Bool) → ((a b : List ℕ) → key_lt a b ≡ true → q b ≡ true → q a ≡ true) → (cells : List Cell) → AreCells cells → IsPartitionedBy (λ c. q c.key) cells
 parted q down [] h i j d le lt e = absurd (omega arith)
@@ -40,29 +42,9 @@ parted q down (c ∷ cells) h zero (suc j) d le lt e = down c.key (slice_index_o
 parted q down (c ∷ cells) h (suc i) zero d le lt e = absurd (omega arith)
 parted q down (c ∷ cells) h (suc i) (suc j) d le lt e = parted q down cells (cells-rest c cells h) i j d (omega arith) (omega arith) e
 
-pub count-is : (q : Cell → Bool) (cells : List Cell) (i : ℕ) → i ≤ length cells → IsPartitionPoint (λ c. q c ≡ true) (λ c. q c ≡ false) cells i → i ≡ prefix_len q cells
-count-is q cells i le point =
-    let d : Cell = record { key = []; now = None; was = None; writer = None } in
-    sym (prefix_len_is q cells i d le (λ k lt. point.0 k d (omega arith) lt) (λ lt. point.1 i d (omega arith) lt))
-
-not-twice : (b : Bool) → not (not b) ≡ b
-not-twice true = refl
-not-twice false = refl
-
-prefix-same : (p q : Cell → Bool) → ((c : Cell) → p c ≡ q c) → (cells : List Cell) → prefix_len p cells ≡ prefix_len q cells
-prefix-same p q same [] = refl
-prefix-same p q same (c ∷ cells) = ap (λ b. cond b (1 + prefix_len p cells) 0) (same c) ∙ ap (λ n. cond (q c) (1 + n) 0) (prefix-same p q same cells)
-
--- the first at a key or above it, and the first above it
-pub first-at : (low : List ℕ) (cells : List Cell) → find (λ c. key_le low c.key) cells ≡ slice_get cells (prefix_len (λ c. key_lt c.key low) cells)
-first-at low cells =
-    find_at (λ c. key_le low c.key) cells
-    ∙ ap (slice_get cells) (prefix-same (λ c. not (key_le low c.key)) (λ c. key_lt c.key low) (λ c. ap not (key_le-not_lt low c.key) ∙ not-twice (key_lt c.key low)) cells)
-
-pub first-after : (last : List ℕ) (cells : List Cell) → find (λ c. key_lt last c.key) cells ≡ slice_get cells (prefix_len (λ c. key_le c.key last) cells)
-first-after last cells =
-    find_at (λ c. key_lt last c.key) cells
-    ∙ ap (slice_get cells) (prefix-same (λ c. not (key_lt last c.key)) (λ c. key_le c.key last) (λ c. sym (key_le-not_lt c.key last)) cells)
+pub count-is : {X : Type 0} (d : X) (q : X → Bool) (xs : List X) (i : ℕ) → i ≤ length xs → IsPartitionPoint (λ x. q x ≡ true) (λ x. q x ≡ false) xs i → i ≡ prefix_len q xs
+count-is d q xs i le point =
+    sym (prefix_len_is q xs i d le (λ k lt. point.0 k d (omega arith) lt) (λ lt. point.1 i d (omega arith) lt))
 
 above-too : (key a b : List ℕ) → key_lt a b ≡ true → slice_cmp nat_cmp a key ≡ Greater → slice_cmp nat_cmp b key ≡ Greater
 above-too key a b h e =

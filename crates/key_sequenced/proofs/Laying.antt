@@ -1,5 +1,5 @@
 -- Records with_cell and rewritten at their places.
-use Rattle.std.proofs.Common.{◌≡◌, ℕ, List, [], ◌∷◌, ◌++◌, map, Bool, true, false, cond, Option, Some, None, get_or, set, insert, refl, ap, sym, ◌∙◌, subst}
+use Rattle.std.proofs.Common.{◌≡◌, ℕ, List, [], ◌∷◌, ◌++◌, map, Bool, true, false, cond, Option, Some, None, is_some, get_or, set, insert, refl, ap, sym, ◌∙◌, subst}
 use Rattle.std.specs.Prelude.{slice_get}
 use Rattle.std.specs.List.{prefix_len, AllByRecursion}
 use Rattle.std.specs.Cmp.Lexicographic.{slice_cmp}
@@ -33,30 +33,32 @@ laid-at cell (c ∷ cells) = at (slice_cmp nat_cmp c.key cell.key) refl (laid-at
     at Equal e rest = rw (e, turned c.key cell.key Equal e, plus-one (prefix_len (λ x. key_le x.key cell.key) cells)) (ap (λ cs. c ∷ cs) rest)
     at Greater e rest = rw (e, turned c.key cell.key Greater e) refl
 
--- the cell of the key is rewritten
-pub inserted-over : (t : TxnName) (key : List ℕ) (row : List Value) (cells : List Cell) (x : Cell) → is_key_of key (slice_get cells (below key cells)) ≡ true → x ≡ get_or cells (below key cells) x → set cells (below key cells) (rewritten t (Some row) x) ≡ inserted t key row cells
-inserted-over t key row [] x h is = absurd (false≢true h)
-inserted-over t key row (c ∷ cells) x h is = at (slice_cmp nat_cmp c.key key) refl (λ k i. inserted-over t key row cells x k i) h is
+-- a record is inserted into the cell of its key, or in a cell of its own
+pub inserted-over : (t : TxnName) (key : List ℕ) (row : List Value) (cells : List Cell) → AreCells cells → is_some (find_cell key cells) ≡ true → rewritten_at t key (Some row) cells ≡ inserted t key row cells
+inserted-over t key row [] h some = absurd (false≢true some)
+inserted-over t key row (c ∷ cells) h some = at (slice_cmp nat_cmp c.key key) refl some (λ k. inserted-over t key row cells (cells-rest c cells h) k)
   where
-    at : (o : Ordering) → slice_cmp nat_cmp c.key key ≡ o → (is_key_of key (slice_get cells (below key cells)) ≡ true → x ≡ get_or cells (below key cells) x → set cells (below key cells) (rewritten t (Some row) x) ≡ inserted t key row cells)
-        → is_key_of key (slice_get (c ∷ cells) (below key (c ∷ cells))) ≡ true → x ≡ get_or (c ∷ cells) (below key (c ∷ cells)) x → set (c ∷ cells) (below key (c ∷ cells)) (rewritten t (Some row) x) ≡ inserted t key row (c ∷ cells)
-    at Less e rest = rw (e, turned c.key key Less e, plus-one (below key cells)) (λ k i. ap (λ cs. c ∷ cs) (rest k i))
-    at Equal e rest = rw (e, turned c.key key Equal e) (λ k i. ap (λ y. rewritten t (Some row) y ∷ cells) i)
-    at Greater e rest = rw (e, e) (λ k i. absurd (false≢true k))
+    at : (o : Ordering) → slice_cmp nat_cmp c.key key ≡ o → is_some (find_cell key (c ∷ cells)) ≡ true → (is_some (find_cell key cells) ≡ true → rewritten_at t key (Some row) cells ≡ inserted t key row cells) → rewritten_at t key (Some row) (c ∷ cells) ≡ inserted t key row (c ∷ cells)
+    at Less e some rest = rw (e, turned c.key key Less e) (ap (λ cs. c ∷ cs) (rest (sym (rw e refl) ∙ some)))
+    at Equal e some rest = rw (e, turned c.key key Equal e) refl
+    at Greater e some rest = absurd (false≢true (sym (ap is_some (none-above key c cells h e)) ∙ sym (rw e refl) ∙ some))
 
--- a new cell comes to its place
-pub inserted-new : (t : TxnName) (key : List ℕ) (row : List Value) (cells : List Cell) → is_key_of key (slice_get cells (below key cells)) ≡ false → insert cells (below key cells) (record { key = key; now = Some row; was = None; writer = Some t }) ≡ inserted t key row cells
-inserted-new t key row [] h = refl
-inserted-new t key row (c ∷ cells) h = at (slice_cmp nat_cmp c.key key) refl (λ k. inserted-new t key row cells k) h
+pub inserted-new : (t : TxnName) (key : List ℕ) (row : List Value) (cells : List Cell) → find_cell key cells ≡ None → with_cell (record { key = key; now = Some row; was = None; writer = Some t }) cells ≡ inserted t key row cells
+inserted-new t key row [] none = refl
+inserted-new t key row (c ∷ cells) none = at (slice_cmp nat_cmp c.key key) refl none (λ k. inserted-new t key row cells k)
   where
     new : Cell
     new = record { key = key; now = Some row; was = None; writer = Some t }
 
-    at : (o : Ordering) → slice_cmp nat_cmp c.key key ≡ o → (is_key_of key (slice_get cells (below key cells)) ≡ false → insert cells (below key cells) (record { key = key; now = Some row; was = None; writer = Some t }) ≡ inserted t key row cells)
-        → is_key_of key (slice_get (c ∷ cells) (below key (c ∷ cells))) ≡ false → insert (c ∷ cells) (below key (c ∷ cells)) (record { key = key; now = Some row; was = None; writer = Some t }) ≡ inserted t key row (c ∷ cells)
-    at Less e rest = rw (e, turned c.key key Less e, plus-one (below key cells)) (λ k. ap (λ cs. c ∷ cs) (rest k))
-    at Equal e rest = rw (e, e) (λ k. absurd (false≢true (sym k)))
-    at Greater e rest = rw (e, turned c.key key Greater e) (λ k. refl)
+    at : (o : Ordering) → slice_cmp nat_cmp c.key key ≡ o → find_cell key (c ∷ cells) ≡ None → (find_cell key cells ≡ None → with_cell (record { key = key; now = Some row; was = None; writer = Some t }) cells ≡ inserted t key row cells)
+        → with_cell (record { key = key; now = Some row; was = None; writer = Some t }) (c ∷ cells) ≡ inserted t key row (c ∷ cells)
+    at Less e none rest = rw (turned c.key key Less e) (ap (λ cs. c ∷ cs) (rest (sym (rw e refl) ∙ none)))
+    at Equal e none rest = absurd (let there : Some c ≡ None = sym (rw e refl) ∙ none in cc)
+    at Greater e none rest = rw (turned c.key key Greater e) refl
+
+pub nothing-there : (o : Option Cell) → is_some o ≡ false → o ≡ None
+nothing-there None h = refl
+nothing-there (Some c) h = absurd (cc)
 
 pub rewritten-over : (t : TxnName) (key : List ℕ) (now : Option (List Value)) (cells : List Cell) (x : Cell) → is_key_of key (slice_get cells (below key cells)) ≡ true → x ≡ get_or cells (below key cells) x → set cells (below key cells) (rewritten t now x) ≡ rewritten_at t key now cells
 rewritten-over t key now [] x h is = absurd (false≢true h)
@@ -81,14 +83,6 @@ pub rewritten-none : (t : TxnName) (key : List ℕ) (now : Option (List Value)) 
 rewritten-none t key now cells h = sym (unfound t key now cells h)
 
 -- the same at a place that was found
-pub put-over : (t : TxnName) (key : List ℕ) (row : List Value) (cells : List Cell) (i : ℕ) (x y : Cell) → i ≡ below key cells → is_key_of key (slice_get cells i) ≡ true → x ≡ get_or cells i x → y ≡ rewritten t (Some row) x → set cells i y ≡ inserted t key row cells
-put-over t key row cells i x y e k is w =
-    ap (set cells i) w ∙ subst (λ n. is_key_of key (slice_get cells n) ≡ true → x ≡ get_or cells n x → set cells n (rewritten t (Some row) x) ≡ inserted t key row cells) (sym e) (inserted-over t key row cells x) k is
-
-pub put-new : (t : TxnName) (key : List ℕ) (row : List Value) (cells : List Cell) (i : ℕ) → i ≡ below key cells → is_key_of key (slice_get cells i) ≡ false → insert cells i (record { key = key; now = Some row; was = None; writer = Some t }) ≡ inserted t key row cells
-put-new t key row cells i e k =
-    subst (λ n. is_key_of key (slice_get cells n) ≡ false → insert cells n (record { key = key; now = Some row; was = None; writer = Some t }) ≡ inserted t key row cells) (sym e) (inserted-new t key row cells) k
-
 pub rewrite-over : (t : TxnName) (key : List ℕ) (now : Option (List Value)) (cells : List Cell) (i : ℕ) (x y : Cell) → i ≡ below key cells → is_key_of key (slice_get cells i) ≡ true → x ≡ get_or cells i x → y ≡ rewritten t now x → set cells i y ≡ rewritten_at t key now cells
 rewrite-over t key now cells i x y e k is w =
     ap (set cells i) w ∙ subst (λ n. is_key_of key (slice_get cells n) ≡ true → x ≡ get_or cells n x → set cells n (rewritten t now x) ≡ rewritten_at t key now cells) (sym e) (rewritten-over t key now cells x) k is

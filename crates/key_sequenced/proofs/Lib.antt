@@ -1,4 +1,9 @@
+pub mod Belonging
 pub mod Counts
 pub mod Endings
+pub mod Halving
+pub mod Homes
+pub mod Joining
 pub mod Laying
 pub mod Rising
+pub mod Starts

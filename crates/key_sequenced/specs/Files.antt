@@ -1,5 +1,5 @@
 -- A file: its cells, and the room that is left.
-use Rattle.std.specs.Prelude.{ℕ, ◌-◌, List, [], ◌∷◌, Bool, false, Option, Some, None, unwrap_or, Vec, vec_len, vec_capacity, if◌then◌else◌}
+use Rattle.std.specs.Prelude.{ℕ, ◌≤◌, List, [], ◌∷◌, Bool, false, Option, Some, None, unwrap_or, if◌then◌else◌}
 use Rattle.sql_base.specs.Keys.{key_lt, key_eq}
 use Rattle.sql_base.specs.declared.lock_names.TxnName.{TxnName}
 use Rattle.sql_base.specs.declared.values.Value.{Value}
@@ -10,9 +10,6 @@ use Rattle.key_sequenced.specs.declared.Cell.{Cell}
 pub record Held : Type 0 where
   pub cells : List Cell
   pub spare : ℕ
-
-abbrev pub held_of : {Z : Type 0} → Vec Cell Z → Held
-held_of cells = record { cells = cells.items; spare = vec_capacity cells - vec_len cells }
 
 -- the cell behind those up to its key
 abbrev pub with_cell : Cell → List Cell → List Cell
@@ -36,3 +33,7 @@ rewritten_at t key now (cell ∷ cells) = if key_eq cell.key key then rewritten 
 -- the cell that stays after the end of t
 abbrev pub cell_ended : TxnName → (Cell → Option (List Value)) → Cell → Cell
 cell_ended t kept cell = unwrap_or (ending t kept cell cell.writer) cell
+
+-- how many cells a block may have
+abbrev pub IsSize : ℕ → Type 0
+IsSize size = (1 ≤ size) × (size ≤ 64)

@@ -1,11 +1,11 @@
-//! Records with_cell into cells with reserved room, and rewritten there.
+//! Cells laid among others with reserved room, and rewritten there.
 ghost use Rattle.std.specs.Prelude.{◌≡◌, ◌≤◌, ◌<◌, ◌+◌, insert, vec_len, vec_capacity};
-ghost use Rattle.key_sequenced.specs.Cells.{AreCells, inserted, rewritten};
+ghost use Rattle.key_sequenced.specs.Cells.{AreCells, rewritten};
 ghost use Rattle.key_sequenced.specs.Files.{with_cell, rewritten_at};
 
 use crate::Cell;
 use crate::places::{count_below, count_up_to, is_at};
-use sql_base::{Key, Row, TxnName};
+use sql_base::{Row, TxnName};
 
 /// Lays a cell behind those up to its key.
 pub fn lay(cells: &mut Vec<Cell>, cell: Cell)
@@ -17,31 +17,6 @@ pub fn lay(cells: &mut Vec<Cell>, cell: Cell)
 {
     let at = count_up_to(cells, cell.key.bytes());
     insert(cells, at, cell);
-}
-
-/// Inserts a record, in the cell of its key or in one of its own.
-pub fn put(cells: &mut Vec<Cell>, key: Key, row: Row, writer: TxnName)
-    requires cells { AreCells cells.old.items }
-    requires room { vec_len cells.old < vec_capacity cells.old }
-    ensures items { cells.new.items ≡ inserted writer key row cells.old.items }
-    ensures one { vec_len cells.new ≤ vec_len cells.old + 1 }
-    ensures capacity { vec_capacity cells.new ≡ vec_capacity cells.old }
-{
-    let at = count_below(cells, key.bytes());
-    if is_at(cells, at, key.bytes()) {
-        rewrite(&mut cells[at], Some(row), writer);
-        return;
-    }
-    insert(
-        cells,
-        at,
-        Cell {
-            key,
-            now: Some(row),
-            was: None,
-            writer: Some(writer),
-        },
-    );
 }
 
 fn insert(cells: &mut Vec<Cell>, at: usize, cell: Cell)

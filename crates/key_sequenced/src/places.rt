@@ -1,12 +1,11 @@
 //! Where a key stands among cells.
-ghost use Rattle.std.specs.Prelude.{◌≡◌, ◌≤◌, length, find, option_copied, slice_get};
+ghost use Rattle.std.specs.Prelude.{◌≡◌, ◌≤◌, length, option_copied, slice_get};
 ghost use Rattle.std.specs.List.{prefix_len};
-ghost use Rattle.sql_base.specs.Keys.{is_from, key_lt, key_le};
+ghost use Rattle.sql_base.specs.Keys.{key_lt, key_le};
 ghost use Rattle.key_sequenced.specs.Cells.{AreCells, find_cell};
 ghost use Rattle.key_sequenced.specs.Files.{is_key_of};
 
 use crate::Cell;
-use sql_base::Start;
 
 /// How many cells stand below the key.
 pub fn count_below(cells: &[Cell], key: &[u8]) -> usize
@@ -24,17 +23,6 @@ pub fn count_up_to(cells: &[Cell], key: &[u8]) -> usize
     ensures within { result ≤ length cells.now }
 {
     cells.partition_point(|cell| cell.key.bytes().cmp(key).is_le())
-}
-
-/// The first cell from the start on.
-pub fn first_from<'a>(cells: &'a [Cell], start: &Start) -> Option<&'a Cell>
-    requires { AreCells cells.now }
-    ensures { option_copied result ≡ find (λ c. is_from start.now c.key) cells.now }
-{
-    match start {
-        Start::At(key) => cell_at(cells, count_below(cells, key.bytes())),
-        Start::After(key) => cell_at(cells, count_up_to(cells, key.bytes())),
-    }
 }
 
 /// The cell of the key.
