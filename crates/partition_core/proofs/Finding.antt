@@ -26,7 +26,7 @@ one_or_none None = refl
 one_or_none (Some row) = refl
 
 -- the row of one more cell
-pub rows_more : (cells : List Cell) (i : ℕ) (cell : Cell) (rows more : List (List Value)) → i < length cells → cell ≡ get_or cells i cell → rows ≡ filter_map (λ c. c.now) (take i cells) → more ≡ rows ++ option_to_list cell.now → more ≡ filter_map (λ c. c.now) (take (i + 1) cells)
-rows_more cells i cell rows more lt is so_far one =
-    one ∙ ap (λ rs. rs ++ option_to_list cell.now) so_far ∙ ap (λ os. filter_map (λ c. c.now) (take i cells) ++ os) (one_or_none cell.now)
-    ∙ sym (ap (filter_map (λ c. c.now)) (take_more cells i cell lt ∙ ap (λ y. take i cells ++ y ∷ []) (sym is)) ∙ filter_map-append (λ c. c.now) (take i cells) (cell ∷ []))
+pub rows_more : (cells : List Cell) (cell : Cell) (rows more : List (List Value)) → rows ≡ filter_map (λ c. c.now) cells → more ≡ rows ++ option_to_list cell.now → more ≡ filter_map (λ c. c.now) (cells ++ cell ∷ [])
+rows_more cells cell rows more so_far one =
+    one ∙ ap (λ rs. rs ++ option_to_list cell.now) so_far ∙ ap (λ os. filter_map (λ c. c.now) cells ++ os) (one_or_none cell.now)
+    ∙ sym (filter_map-append (λ c. c.now) cells (cell ∷ []))

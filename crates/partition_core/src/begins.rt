@@ -139,7 +139,7 @@ impl Contents {
             alloc,
             self.limits,
             &self.table,
-            self.store.file.cells(),
+            &self.store.file,
             &self.store.locks,
             block,
         )?;

@@ -3,6 +3,7 @@ use Rattle.std.proofs.Common.{◌≡◌, ◌==◌, ℕ, ◌+◌, ◌-◌, ◌<�
 use Rattle.std.specs.Prelude.{count_by}
 use Rattle.std.specs.List.{cons_option, list_all}
 use Rattle.std.proofs.Math.Seq.{take-append_seam}
+use Rattle.std.proofs.lemmas.List.{take_more}
 use Rattle.std.proofs.lemmas.List.Folds.{list_all-append}
 use Rattle.std.proofs.lemmas.List.Elements.{filter_map-append}
 use Rattle.std.proofs.lemmas.List.Sums.{sum_by-append}
@@ -210,6 +211,39 @@ end_at limits table locks block cells i rows room visited changed plans last w a
       plans = same ∙ w.plans_are ∙ ap (plans_of block.holder) (sym handled);
       few = subst (λ ps. length ps ≤ limits.quantum) (sym (same ∙ w.plans_are)) (omega (arith, few-plans block.holder done));
     }
+
+-- the cells as those seen, the next one and the rest
+pub seam : (seen : List Cell) (cell : Cell) (rest : List Cell) → cell ≡ get_or (seen ++ cell ∷ rest) (length seen) cell
+seam [] cell rest = refl
+seam (x ∷ seen) cell rest = seam seen cell rest
+
+pub at_next : (limits : Limits) (table : TableDef) (locks : List Lock) (block : Block SetWork) (seen : List Cell) (cell : Cell) (rest : List Cell) (rows : List (List ℕ)) (room visited changed : ℕ) (plans : List Planned) (last : Option (List ℕ)) → is_candidate block cell ≡ true → Walked limits block.holder (judged table locks block seen) rows room visited changed plans last
+    → IsAt limits table locks block (seen ++ cell ∷ rest) (length seen) cell rows room visited changed plans last
+at_next limits table locks block seen cell rest rows room visited changed plans last candidate w = record {
+  below = omega (arith, length-append seen (cell ∷ rest));
+  is = seam seen cell rest;
+  seen = candidate;
+  walked = subst (λ cs. Walked limits block.holder (judged table locks block cs) rows room visited changed plans last) (sym (take-append_seam seen (cell ∷ rest))) w;
+}
+
+next-seen : (seen : List Cell) (cell : Cell) (rest : List Cell) → take (length seen + 1) (seen ++ cell ∷ rest) ≡ seen ++ cell ∷ []
+next-seen seen cell rest =
+    take_more (seen ++ cell ∷ rest) (length seen) cell (omega (arith, length-append seen (cell ∷ rest)))
+    ∙ ap (λ cs. cs ++ get_or (seen ++ cell ∷ rest) (length seen) cell ∷ []) (take-append_seam seen (cell ∷ rest)) ∙ ap (λ x. seen ++ x ∷ []) (sym (seam seen cell rest))
+
+pub more_next : (limits : Limits) (table : TableDef) (locks : List Lock) (block : Block SetWork) (seen : List Cell) (cell : Cell) (rest : List Cell) (rows : List (List ℕ)) (room visited changed : ℕ) (plans : List Planned) (last : Option (List ℕ)) → IsAt limits table locks block (seen ++ cell ∷ rest) (length seen) cell rows room visited changed plans last
+    → (v : Verdict) → v ≡ verdict table locks block cell → lets_on v ≡ true → room_for v ≤ room → visited < limits.quantum
+    → Walked limits block.holder (judged table locks block (seen ++ cell ∷ [])) (rows ++ given_rows v) (room - room_for v) (visited + 1) (changed + cond (is_change v) 1 0) (plans ++ option_list (plan_of block.holder cell.key v)) (Some cell.key)
+more_next limits table locks block seen cell rest rows room visited changed plans last h v e on fit lt =
+    subst (λ cs. Walked limits block.holder (judged table locks block cs) (rows ++ given_rows v) (room - room_for v) (visited + 1) (changed + cond (is_change v) 1 0) (plans ++ option_list (plan_of block.holder cell.key v)) (Some cell.key)) (next-seen seen cell rest)
+    (more_at limits table locks block (seen ++ cell ∷ rest) (length seen) cell rows room visited changed plans last h v e on fit lt)
+
+pub end_seen : (limits : Limits) (table : TableDef) (locks : List Lock) (block : Block SetWork) (seen : List Cell) (rows : List (List ℕ)) (room visited changed : ℕ) (plans : List Planned) (last : Option (List ℕ)) → Walked limits block.holder (judged table locks block seen) rows room visited changed plans last
+    → (walk : Walk) → walk.reply ≡ Ended rows changed → walk.plans ≡ plans → IsWalk limits table seen locks block walk
+end_seen limits table locks block seen rows room visited changed plans last w walk reply same =
+    let whole : take (length seen) seen ≡ seen = grind (arith, common_steps) in
+    end_at limits table locks block seen (length seen) rows room visited changed plans last
+    (subst (λ cs. Walked limits block.holder (judged table locks block cs) rows room visited changed plans last) (sym whole) w) (omega arith) walk reply same
 
 -- two clauses of one call
 pub if_both : {X E : Type 0} (r : Result X E) (P Q R : X → Type 0) → ((x : X) → P x → Q x → R x) → IfOk r P → IfOk r Q → IfOk r R

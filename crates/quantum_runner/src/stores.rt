@@ -46,7 +46,7 @@ pub fn quantum(
         alloc,
         limits,
         table,
-        store.file.cells(),
+        &store.file,
         &store.locks,
         block,
     )?;

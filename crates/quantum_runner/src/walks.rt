@@ -1,5 +1,6 @@
 //! The walk over the cells of a file, up to the end of a quantum.
 ghost use Rattle.std.specs.Prelude.{◌<◌, IfOk, All};
+ghost use Rattle.key_sequenced.specs.Cells.{AreCells};
 ghost use Rattle.quantum_runner.specs.Scaffold.Plans.{IsWalk};
 ghost use Rattle.quantum_runner.specs.Scaffold.Works.{HoldsRow, IsWork};
 
@@ -9,7 +10,7 @@ use crate::planned::Walk;
 use crate::progress::{Progress, cause_to_stop};
 use crate::tables::CheckedTable;
 use crate::works::Work;
-use key_sequenced::Cell;
+use key_sequenced::File;
 use lock_tables::LockTable;
 use quantum_core::Verdict;
 use sql_base::{Cause, Key, Limits, NoMemory};
@@ -21,18 +22,19 @@ pub fn walk(
     alloc: Global,
     limits: Limits,
     table: &CheckedTable,
-    cells: &[Cell],
+    file: &File,
     locks: &LockTable,
     block: &Block<Work>,
 ) -> Result<Walk, NoMemory>
     requires visits { 0 < limits.quantum }
     requires work { IsWork table.now block.now.work }
-    requires rows { All (HoldsRow table.now) cells.now }
-    ensures { IfOk result (λ walk. IsWalk limits table.now cells.now locks.now.locks block.now walk) }
+    requires rows { All (HoldsRow table.now) file.now.cells }
+    ensures walk { IfOk result (λ walk. IsWalk limits table.now file.now.cells locks.now.locks block.now walk) }
+    ensures order { AreCells file.now.cells }
 {
     let mut done = Progress::new(alloc, limits.buffer);
     let mut last: Option<&Key> = None;
-    for cell in cells {
+    for cell in file.cells() {
         if !sees(block, cell) {
             continue;
         }

@@ -12,7 +12,6 @@ returns-clause-ok c =
     let block = c.args.block.now in
     let cells = c.args.store.now.file.cells in
     let locks = c.args.store.now.locks.locks in
-    let is_walk : IsWalk c.args.limits table cells locks block walk = subst (λ (cs : List Cell). IsWalk c.args.limits table cs locks block walk) c.cells.ensures.cells c.in_ok-walked.ensures in
     ap (λ (cs : List Cell). left_with walk.reply cs c.carry_out.new.store.locks.locks) c.carry_out.ensures.cells
     ∙ ap (λ (ls : List Lock). left_with walk.reply (rewritten_by walk.plans cells) ls) (c.carry_out.ensures.locks ∙ ap (granted_by walk.plans) c.in_ok-reserve.ensures.same)
-    ∙ quantum-left c.args.limits table cells locks block walk c.cells.ensures.order is_walk
+    ∙ quantum-left c.args.limits table cells locks block walk c.in_ok-walked.ensures.order c.in_ok-walked.ensures.walk

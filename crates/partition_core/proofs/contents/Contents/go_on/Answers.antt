@@ -1,11 +1,9 @@
 use Rattle.std.proofs.Common.{◌≡◌, ◌≤◌, List, length, arith, Some, true, ap, sym, ◌∙◌, subst}
 use Rattle.sql_base.specs.Keys.{key_eq}
-use Rattle.key_sequenced.specs.declared.Cell.{Cell}
 use Rattle.subset_blocks.specs.Blocks.{find_block}
 use Rattle.subset_blocks.specs.declared.Numbered.{Numbered}
 use Rattle.subset_blocks.proofs.BlockLists.{found_has}
 use Rattle.quantum_core.specs.declared.works.SetWork.{SetWork}
-use Rattle.quantum_runner.specs.Scaffold.Plans.{IsWalk}
 use Rattle.quantum_runner.specs.Scaffold.Works.{IsWork}
 use Rattle.partition_state.specs.Step.{kept_key}
 use Rattle.partition_core.specs.Scaffold.Contents.{parts_of, state_of}
@@ -29,8 +27,7 @@ returns-clause-told c =
     let found : find_block c.args.subset c.args.t p.blocks ≡ Some b = sym (c.in-Some.ensures ∙ ap (find_block c.args.subset c.args.t) c.deref.ensures.value) in
     let right : key_eq (kept_key b.block.start) c.args.last.now ≡ true = ap (λ k. key_eq k c.args.last.now) (sym c.kept_key-kept.ensures) ∙ sym c.is_key.ensures ∙ c.if-not-is_key.false in
     let walk = c.in_ok-walked.walked in
-    let is : IsWalk p.limits p.table p.cells p.locks b.block walk = subst (λ (cells : List Cell). IsWalk p.limits p.table cells p.locks b.block walk) c.cells.ensures.cells c.in_ok-walked.ensures in
-    let told = next-told p c.args.t b walk c.requires.serving.keeps.cells.rise is in
+    let told = next-told p c.args.t b walk c.requires.serving.keeps.cells.rise c.in_ok-walked.ensures.walk in
     if_both c.after_next.result _ _ _
     (λ j reply change. told-by p c.args.t j (next_reply b.number walk.reply) (next_change b.number walk) reply change ∙ told ∙ goes-told p c.args.last.now b _ found right)
     c.after_next.ensures.reply c.after_next.ensures.change
@@ -40,5 +37,5 @@ returns-clause-fits c =
     let q = parts_of c.args.self.now in
     let walk = c.in_ok-walked.walked in
     let limits = c.requires.serving.formed.limits in
-    let few : length walk.plans ≤ 1000 = omega (arith, c.in_ok-walked.ensures.few, limits.quantum.1) in
+    let few : length walk.plans ≤ 1000 = omega (arith, c.in_ok-walked.ensures.walk.few, limits.quantum.1) in
     IfOk-weaker c.after_next.result _ _ (λ j change. subst (IsFitting q) (sym change) (next-fits q c.in-Some.numbered.now.number walk.plans walk.reply few)) c.after_next.ensures.change
