@@ -1,6 +1,6 @@
 -- The keys rise after each change.
 use Rattle.std.proofs.Common.{◌≡◌, ℕ, List, [], ◌∷◌, Bool, true, false, cond, Option, Some, None, map, refl, ap, sym, ◌∙◌, subst}
-use Rattle.std.specs.Prelude.{filter_map}
+use Rattle.std.specs.Prelude.{filter, filter_map}
 use Rattle.std.specs.List.{cons_option}
 use Rattle.std.specs.Cmp.Lexicographic.{slice_cmp}
 use Rattle.std.specs.Ordering.{is_eq, nat_cmp}
@@ -103,3 +103,14 @@ rise-laid cell (c ∷ cells) free h =
     let rest = rise-laid cell cells parts.1 (cells-rest c cells h) in
     cond_both (key_lt cell.key c.key) (cell ∷ c ∷ cells) (c ∷ with_cell cell cells) AreCells (λ e. (e, h))
     (λ e. cells-cons c (with_cell cell cells) (below-laid cell c.key cells (cells-first c cells h) (key_lt-other cell.key c.key e (not-eq cell.key c.key parts.0))) rest)
+
+-- some cells are left out
+below-filter : (p : Cell → Bool) (a : Cell) (cells : List Cell) → AreCells (a ∷ cells) → IsBelow a.key (filter p cells)
+below-filter p a [] h = tt
+below-filter p a (c ∷ cells) h = cond_both (p c) (c ∷ filter p cells) (filter p cells) (IsBelow a.key) (λ _. h.0) (λ _. below-filter p a cells (cells-without a c cells h))
+
+pub rise-filter : (p : Cell → Bool) (cells : List Cell) → AreCells cells → AreCells (filter p cells)
+rise-filter p [] h = tt
+rise-filter p (c ∷ cells) h =
+    let rest = rise-filter p cells (cells-rest c cells h) in
+    cond_both (p c) (c ∷ filter p cells) (filter p cells) AreCells (λ _. cells-cons c (filter p cells) (below-filter p c cells h) rest) (λ _. rest)

@@ -1,15 +1,20 @@
 -- The walk over the cells, as far as it has come.
-use Rattle.std.proofs.Common.{◌≡◌, ◌==◌, ℕ, ◌+◌, ◌-◌, ◌<◌, ◌≤◌, List, [], ◌∷◌, ◌++◌, length, take, drop, get_or, Bool, true, false, cond, ◌&&◌, ◌⊎◌, inl, inr, refl, ap, sym, ◌∙◌, subst, arith, sum_by, length-append, Option, Some, None, Result, Ok, Err, IfOk}
-use Rattle.std.specs.Prelude.{count_by}
-use Rattle.std.specs.List.{cons_option, list_all}
+use Rattle.std.proofs.Common.{◌≡◌, ◌==◌, ℕ, ◌+◌, ◌-◌, ◌<◌, ◌≤◌, List, [], ◌∷◌, ◌++◌, length, take, drop, get_or, Bool, true, false, cond, ◌&&◌, ◌⊎◌, inl, inr, refl, ap, sym, ◌∙◌, subst, arith, sum_by, length-append, append-nil, filter, map, Option, Some, None, Result, Ok, Err, IfOk}
+use Rattle.std.specs.Prelude.{count_by, All}
+use Rattle.std.specs.List.{cons_option, list_all, AllByRecursion}
 use Rattle.std.proofs.Math.Seq.{take-append_seam}
 use Rattle.std.proofs.lemmas.List.{take_more}
 use Rattle.std.proofs.lemmas.List.Folds.{list_all-append}
-use Rattle.std.proofs.lemmas.List.Elements.{filter_map-append}
+use Rattle.std.proofs.lemmas.List.Elements.{filter_map-append, filter-append, All-filter, All-same}
 use Rattle.std.proofs.lemmas.List.Sums.{sum_by-append}
 use Rattle.std.proofs.lemmas.Bool.Decides.{nat_tests}
 use Rattle.std.proofs.lemmas.Bool.{le-leb}
 use Rattle.std.proofs.lemmas.Grind.{common_steps}
+use Rattle.sql_base.specs.Keys.{is_from, key_lt}
+use Rattle.sql_base.proofs.KeyOrders.{lt-trans, not_le_from_lt}
+use Rattle.sql_base.proofs.ListFacts.{all-weaker, filter-none, filter-twice}
+use Rattle.key_sequenced.specs.Cells.{AreCells}
+use Rattle.key_sequenced.proofs.Belonging.{above-first, cells-back}
 use Rattle.sql_base.specs.declared.faults.Cause.{Cause}
 use Rattle.sql_base.specs.declared.faults.Cause.TheVariants as cause
 use Rattle.sql_base.specs.declared.lock_names.Lock.{Lock}
@@ -226,6 +231,12 @@ at_next limits table locks block seen cell rest rows room visited changed plans 
   walked = subst (λ cs. Walked limits block.holder (judged table locks block cs) rows room visited changed plans last) (sym (take-append_seam seen (cell ∷ rest))) w;
 }
 
+-- what holds of all cells holds of the next one
+pub holds-next : (P : Cell → Type 0) (q : Cell → Bool) (cells seen : List Cell) (cell : Cell) (rest : List Cell) → All P cells → seen ++ cell ∷ rest ≡ filter q cells → P cell
+holds-next P q cells seen cell rest h e =
+    let all : All P (seen ++ cell ∷ rest) = All-same P (seen ++ cell ∷ rest) (filter q cells) e (All-filter q P cells h) in
+    subst P (sym (seam seen cell rest)) (all (length seen) cell (omega (arith, length-append seen (cell ∷ rest))))
+
 next-seen : (seen : List Cell) (cell : Cell) (rest : List Cell) → take (length seen + 1) (seen ++ cell ∷ rest) ≡ seen ++ cell ∷ []
 next-seen seen cell rest =
     take_more (seen ++ cell ∷ rest) (length seen) cell (omega (arith, length-append seen (cell ∷ rest)))
@@ -244,6 +255,48 @@ end_seen limits table locks block seen rows room visited changed plans last w wa
     let whole : take (length seen) seen ≡ seen = grind (arith, common_steps) in
     end_at limits table locks block seen (length seen) rows room visited changed plans last
     (subst (λ cs. Walked limits block.holder (judged table locks block cs) rows room visited changed plans last) (sym whole) w) (omega arith) walk reply same
+
+-- a walk over other cells with the same candidates
+same_walk : (limits : Limits) (table : TableDef) (locks : List Lock) (block : Block SetWork) (xs ys : List Cell) → judged table locks block xs ≡ judged table locks block ys → (walk : Walk) → IsWalk limits table xs locks block walk → IsWalk limits table ys locks block walk
+same_walk limits table locks block xs ys e walk w = record {
+  reply = w.reply ∙ ap (reply_to limits) e;
+  plans = w.plans ∙ ap (λ js. plans_of block.holder (take (visits limits js) js)) e;
+  few = w.few;
+}
+
+-- no candidate stands before the start
+and-again : (a b : Bool) → (a && (a && b)) ≡ (a && b)
+and-again true b = refl
+and-again false b = refl
+
+judged_from : (table : TableDef) (locks : List Lock) (block : Block SetWork) (cells : List Cell) → judged table locks block (filter (λ c. is_from block.start c.key) cells) ≡ judged table locks block cells
+judged_from table locks block cells =
+    ap (map (as_judged table locks block)) (filter-twice (λ (c : Cell). is_from block.start c.key) (is_candidate block) (is_candidate block) (λ c. and-again (is_from block.start c.key) _) cells)
+
+pub walk_from : (limits : Limits) (table : TableDef) (locks : List Lock) (block : Block SetWork) (cells part : List Cell) → part ≡ filter (λ c. is_from block.start c.key) cells → (walk : Walk) → IsWalk limits table part locks block walk → IsWalk limits table cells locks block walk
+walk_from limits table locks block cells part e walk w =
+    same_walk limits table locks block part cells (ap (judged table locks block) e ∙ judged_from table locks block cells) walk w
+
+-- nor any behind a cell that lies past the high key
+past_high : (block : Block SetWork) (c : Cell) → key_lt block.high c.key ≡ true → is_candidate block c ≡ false
+past_high block c h = rw (not_le_from_lt c.key block.high h) (and-false (is_from block.start c.key))
+  where
+    and-false : (a : Bool) → (a && false) ≡ false
+    and-false true = refl
+    and-false false = refl
+
+judged_past : (table : TableDef) (locks : List Lock) (block : Block SetWork) (seen : List Cell) (cell : Cell) (rest : List Cell) → AreCells (seen ++ cell ∷ rest) → key_lt block.high cell.key ≡ true → judged table locks block seen ≡ judged table locks block (seen ++ cell ∷ rest)
+judged_past table locks block seen cell rest rise h =
+    let behind : AllByRecursion (λ (c : Cell). is_candidate block c ≡ false) rest =
+    all-weaker (λ (c : Cell). key_lt cell.key c.key ≡ true) (λ c. is_candidate block c ≡ false) (λ c lt. past_high block c (lt-trans block.high cell.key c.key h lt)) rest (above-first cell rest (cells-back seen (cell ∷ rest) rise)) in
+    let none : filter (is_candidate block) (cell ∷ rest) ≡ [] = filter-none (is_candidate block) (cell ∷ rest) (past_high block cell h, behind) in
+    ap (map (as_judged table locks block))
+    (sym (append-nil (filter (is_candidate block) seen)) ∙ ap (λ cs. filter (is_candidate block) seen ++ cs) (sym none) ∙ sym (filter-append (is_candidate block) seen (cell ∷ rest)))
+
+pub end_past : (limits : Limits) (table : TableDef) (locks : List Lock) (block : Block SetWork) (seen : List Cell) (cell : Cell) (rest : List Cell) (rows : List (List ℕ)) (room visited changed : ℕ) (plans : List Planned) (last : Option (List ℕ)) → AreCells (seen ++ cell ∷ rest) → key_lt block.high cell.key ≡ true
+    → Walked limits block.holder (judged table locks block seen) rows room visited changed plans last → (walk : Walk) → walk.reply ≡ Ended rows changed → walk.plans ≡ plans → IsWalk limits table (seen ++ cell ∷ rest) locks block walk
+end_past limits table locks block seen cell rest rows room visited changed plans last rise h w walk reply same =
+    same_walk limits table locks block seen (seen ++ cell ∷ rest) (judged_past table locks block seen cell rest rise h) walk (end_seen limits table locks block seen rows room visited changed plans last w walk reply same)
 
 -- two clauses of one call
 pub if_both : {X E : Type 0} (r : Result X E) (P Q R : X → Type 0) → ((x : X) → P x → Q x → R x) → IfOk r P → IfOk r Q → IfOk r R

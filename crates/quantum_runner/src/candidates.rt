@@ -1,6 +1,6 @@
 //! Which cells a quantum looks at.
 ghost use Rattle.std.specs.Prelude.{◌≡◌};
-ghost use Rattle.sql_base.specs.Keys.{is_from};
+ghost use Rattle.sql_base.specs.Keys.{is_from, key_lt};
 ghost use Rattle.quantum_core.specs.Verdicts.{hides, is_candidate, is_hidden};
 
 use crate::works::Work;
@@ -15,6 +15,13 @@ pub fn sees(block: &Block<Work>, cell: &Cell) -> bool
     is_at_start(&block.start, cell.key.bytes())
         && cell.key.bytes().cmp(block.high.bytes()).is_le()
         && !is_gone(block, cell)
+}
+
+/// Whether the cell lies behind the last one that a quantum of the block may look at.
+pub fn is_past(block: &Block<Work>, cell: &Cell) -> bool
+    ensures { result ≡ key_lt block.now.high cell.entry.now.key }
+{
+    block.high.bytes().cmp(cell.key.bytes()).is_lt()
 }
 
 fn is_at_start(start: &Start, key: &[u8]) -> bool

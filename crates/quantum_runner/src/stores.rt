@@ -42,14 +42,7 @@ pub fn quantum(
     ensures err_cells { OnErr result (store.new.file.cells ≡ store.old.file.cells) }
     ensures err_locks { OnErr result (store.new.locks.locks ≡ store.old.locks.locks) }
 {
-    let walked = walk(
-        alloc,
-        limits,
-        table,
-        &store.file,
-        &store.locks,
-        block,
-    )?;
+    let walked = walk(alloc, limits, table, &store.file, &store.locks, block)?;
     let Walk { reply, plans } = walked;
     store.locks.reserve(plans.items().len() as u32 + 1)?;
     carry_out(store, plans);

@@ -4,7 +4,7 @@ ghost use Rattle.key_sequenced.specs.Cells.{AreCells};
 ghost use Rattle.quantum_runner.specs.Scaffold.Plans.{IsWalk};
 ghost use Rattle.quantum_runner.specs.Scaffold.Works.{HoldsRow, IsWork};
 
-use crate::candidates::sees;
+use crate::candidates::{is_past, sees};
 use crate::judges::judge;
 use crate::planned::Walk;
 use crate::progress::{Progress, cause_to_stop};
@@ -17,7 +17,7 @@ use sql_base::{Cause, Key, Limits, NoMemory};
 use std::alloc::Global;
 use subset_blocks::Block;
 
-/// Judges the candidates of one quantum of the block, in key order, and changes nothing.
+/// Judges the candidates of one quantum of the block, in key order from its start to its high key, and changes nothing.
 pub fn walk(
     alloc: Global,
     limits: Limits,
@@ -34,7 +34,10 @@ pub fn walk(
 {
     let mut done = Progress::new(alloc, limits.buffer);
     let mut last: Option<&Key> = None;
-    for cell in file.cells() {
+    for cell in file.cells_from(&block.start) {
+        if is_past(block, cell) {
+            return Ok(done.end());
+        }
         if !sees(block, cell) {
             continue;
         }

@@ -1,7 +1,7 @@
-use Rattle.std.proofs.Common.{List, ap, ◌∙◌, subst}
+use Rattle.std.proofs.Common.{List, ap, ◌∙◌}
 use Rattle.key_sequenced.specs.declared.Cell.{Cell}
 use Rattle.sql_base.specs.declared.lock_names.Lock.{Lock}
-use Rattle.quantum_runner.specs.Scaffold.Plans.{IsWalk, granted_by, left_with, rewritten_by}
+use Rattle.quantum_runner.specs.Scaffold.Plans.{granted_by, left_with, rewritten_by}
 use Rattle.quantum_runner.proofs.Changing.{quantum-left}
 use Rattle.quantum_runner.proofs.stores.quantum.Goals as goal
 
