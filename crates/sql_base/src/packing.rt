@@ -7,13 +7,16 @@ use crate::faults::NoMemory;
 use crate::values::{Row, Value};
 use std::alloc::Global;
 
+/// How many bytes a number has. Room for so many is taken for each column; longer texts make it grow.
+const NUMBER_WIDTH: usize = 8;
+
 /// The packed row of the named columns, in their order. Columns count from 0.
 pub fn pack(alloc: Global, row: &Row, columns: &[u8]) -> Result<Packed, NoMemory>
     requires { All (λ c. c < length row.now) columns.now }
     ensures { IfOk result (λ bytes. bytes ≡ packed columns.now row.now) }
 {
     let values = row.values();
-    let mut bytes = Vec::new(alloc);
+    let mut bytes = Vec::with_capacity(alloc, columns.len().saturating_mul(NUMBER_WIDTH))?;
     for column in columns {
         append_value(&mut bytes, &values[*column as usize])?;
     }
