@@ -125,12 +125,23 @@ fn compare_items(op: CompareOp, a: &Expr, b: &Expr, row: &[Value]) -> Verdict
     }
 }
 
+// The number of either side of a comparison.
+fn side(expr: &Expr, row: &[Value]) -> Number
+    ensures { TellsNumber result (val expr.now row.now) }
+{
+    if is_computed(expr) {
+        number_on(expr, row)
+    } else {
+        plain_number(expr, row)
+    }
+}
+
 // A comparison. What isn't made of numbers alone is compared by its values.
 fn compare(op: CompareOp, a: &Expr, b: &Expr, row: &[Value]) -> Verdict
     ensures { Judges result (both (compared op) (val a.now row.now) (val b.now row.now)) }
 {
-    match number_on(a, row) {
-        Number::Is(x) => match number_on(b, row) {
+    match side(a, row) {
+        Number::Is(x) => match side(b, row) {
             Number::Is(y) => Verdict::Is(holds(op, x.cmp(&y))),
             Number::Fails(fault) => Verdict::Fails(fault),
             Number::Other => compare_items(op, a, b, row),
