@@ -8,11 +8,12 @@ ghost use Rattle.one_thread.specs.Scaffold.Truths.{Judges, TellsNumber};
 use crate::values::{Item, compared, value};
 use sql_base::{ArithOp, CompareOp, EvalFault, Expr, Value, compute, holds};
 
-/// The number that an expression gives.
+/// The number that an expression gives. It is handed on in two words.
 #[derive(Clone, Copy, Debug)]
 pub enum Number {
     Is(i64),
-    Fails(EvalFault),
+    Overflow,
+    ZeroDivide,
     /// The expression isn't made of numbers alone, and nothing is known of its value.
     Other,
 }
@@ -41,7 +42,8 @@ fn made_number(op: ArithOp, x: i64, y: i64) -> Number
 {
     match compute(op, x, y) {
         Ok(number) => Number::Is(number),
-        Err(fault) => Number::Fails(fault),
+        Err(EvalFault::Overflow) => Number::Overflow,
+        Err(EvalFault::ZeroDivide) => Number::ZeroDivide,
     }
 }
 
@@ -52,10 +54,12 @@ fn made_of(op: ArithOp, left: Number, right: Number) -> Number
     match left {
         Number::Is(x) => match right {
             Number::Is(y) => made_number(op, x, y),
-            Number::Fails(fault) => Number::Fails(fault),
+            Number::Overflow => Number::Overflow,
+            Number::ZeroDivide => Number::ZeroDivide,
             Number::Other => Number::Other,
         },
-        Number::Fails(fault) => Number::Fails(fault),
+        Number::Overflow => Number::Overflow,
+        Number::ZeroDivide => Number::ZeroDivide,
         Number::Other => Number::Other,
     }
 }
@@ -113,6 +117,12 @@ fn verdict_in(came: Result<Item<'_>, EvalFault>) -> Verdict
     }
 }
 
+fn verdict_on(expr: &Expr, row: &[Value]) -> Verdict
+    ensures { Judges result (val expr.now row.now) }
+{
+    verdict_in(value(expr, row))
+}
+
 fn compare_items(op: CompareOp, a: &Expr, b: &Expr, row: &[Value]) -> Verdict
     ensures { Judges result (both (compared op) (val a.now row.now) (val b.now row.now)) }
 {
@@ -143,10 +153,12 @@ fn compare(op: CompareOp, a: &Expr, b: &Expr, row: &[Value]) -> Verdict
     match side(a, row) {
         Number::Is(x) => match side(b, row) {
             Number::Is(y) => Verdict::Is(holds(op, x.cmp(&y))),
-            Number::Fails(fault) => Verdict::Fails(fault),
+            Number::Overflow => Verdict::Fails(EvalFault::Overflow),
+            Number::ZeroDivide => Verdict::Fails(EvalFault::ZeroDivide),
             Number::Other => compare_items(op, a, b, row),
         },
-        Number::Fails(fault) => Verdict::Fails(fault),
+        Number::Overflow => Verdict::Fails(EvalFault::Overflow),
+        Number::ZeroDivide => Verdict::Fails(EvalFault::ZeroDivide),
         Number::Other => compare_items(op, a, b, row),
     }
 }
@@ -176,8 +188,8 @@ fn judge(expr: &Expr, row: &[Value]) -> Verdict
         },
         Expr::Number(_) => Verdict::Other,
         Expr::Text(_) => Verdict::Other,
-        Expr::Column(_) => verdict_in(value(expr, row)),
-        Expr::Arith(_, _, _) => verdict_in(value(expr, row)),
+        Expr::Column(_) => Verdict::Other,
+        Expr::Arith(_, _, _) => verdict_on(expr, row),
     }
 }
 

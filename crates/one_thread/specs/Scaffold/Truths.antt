@@ -1,6 +1,7 @@
 -- What is known of the value of an expression that is tried for a number or a truth value.
 use Rattle.std.specs.Prelude.{◌≡◌, Bool, true, false, Ok, Err}
 use Rattle.sql_base.specs.Val.{Outcome, IsNumber, IsTruth}
+use Rattle.sql_base.specs.declared.faults.EvalFault.TheVariants.{Overflow, ZeroDivide}
 use Rattle.one_thread.specs.declared.truths.Number.{Number}
 use Rattle.one_thread.specs.declared.truths.Number.TheVariants as number
 use Rattle.one_thread.specs.declared.truths.Verdict.{Verdict}
@@ -8,7 +9,8 @@ use Rattle.one_thread.specs.declared.truths.Verdict.TheVariants as verdict
 
 abbrev pub TellsNumber : Number → Outcome → Type 0
 TellsNumber (number.Is n) came = came ≡ Ok (IsNumber n)
-TellsNumber (number.Fails fault) came = came ≡ Err fault
+TellsNumber number.Overflow came = came ≡ Err Overflow
+TellsNumber number.ZeroDivide came = came ≡ Err ZeroDivide
 TellsNumber number.Other came = Unit {0}
 
 -- a value that is no truth value
