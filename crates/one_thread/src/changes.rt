@@ -7,7 +7,8 @@ ghost use Rattle.sql_base.specs.Rows.{kinds, width};
 ghost use Rattle.sql_base.specs.Val.{val};
 ghost use Rattle.one_thread.specs.Scaffold.Values.{item_in};
 
-use crate::values::{Item, value};
+use crate::truths::value_on;
+use crate::values::Item;
 use sql_base::{
     Assign, ColumnKind, EvalFault, Expr, Fault, List, NoMemory, Row, TableDef, Value, padded,
 };
@@ -41,7 +42,7 @@ pub fn updated(
 {
     let mut values = row.to_vec(alloc)?;
     for set in sets {
-        match value(&set.value, row) {
+        match value_on(&set.value, row) {
             Ok(item) => store(alloc, table, &mut values, set.column, item)?,
             Err(fault) => return Ok(Err(fault)),
         }
@@ -123,7 +124,7 @@ fn any_fails(checks: &[Expr], row: &[Value]) -> bool
 fn check_fault(check: &Expr, row: &[Value], number: u32) -> Option<Fault>
     ensures { result ≡ check_fault number (val check.now row.now) }
 {
-    match value(check, row) {
+    match value_on(check, row) {
         Ok(Item::Truth(true)) => None,
         Ok(Item::Truth(false)) => Some(Fault::CheckFailed { number }),
         Ok(Item::Number(_)) => Some(Fault::CheckFailed { number }),

@@ -1,8 +1,8 @@
 //! A SELECT, an UPDATE or a DELETE at the cells of its range.
 
-ghost use Rattle.std.specs.Prelude.{◌≡◌, ◌≤◌, ◌++◌, [], length, if◌then◌else◌, IfOk, OnOk};
+ghost use Rattle.std.specs.Prelude.{◌≡◌, ◌≤◌, ◌++◌, [], length, if◌then◌else◌, IfOk, None, OnOk};
 ghost use Rattle.std.specs.List.{AllByRecursion, cons_option};
-ghost use Rattle.one_thread.specs.Scaffold.Scans.{cell_fate, delete_fate, update_fate, Changes, ChangesOne, HasColumns, ScansRows, ReadsOne};
+ghost use Rattle.one_thread.specs.Scaffold.Scans.{cell_fate, delete_fate, read_abort, shown, update_fate, Changes, ChangesOne, HasColumns, ScansRows};
 ghost use Rattle.one_thread.specs.Scaffold.Values.{truth_of};
 ghost use Rattle.sql_base.specs.Val.{filter_val};
 
@@ -130,25 +130,30 @@ pub fn change_cells(
     Ok(Ok(count))
 }
 
-// The named columns of a record that meets the predicate.
+// Adds the named columns of a record that meets the predicate, or says why it fails.
 fn read_cell(
     alloc: Global,
     columns: &[u8],
     filter: &Option<Expr>,
     cell: &Cell,
-) -> Result<Result<Option<Packed>, Abort>, NoMemory>
+    rows: &mut List<Packed>,
+) -> Result<Option<Abort>, NoMemory>
     requires { HasColumns columns.now cell.now }
-    ensures { IfOk result (λ came. ReadsOne columns.now filter.now cell.now came) }
+    ensures abort { IfOk result (λ abort. abort ≡ read_abort filter.now cell.now) }
+    ensures rows { IfOk result (λ abort. abort ≡ None → rows.new ≡ rows.old ++ cons_option (shown columns.now filter.now cell.now) []) }
 {
     match &cell.row {
-        None => Ok(Ok(None)),
+        None => Ok(None),
         Some(row) => match truth(filter, row.values()) {
-            Ok(true) => Ok(Ok(Some(pack(alloc, row, columns)?))),
-            Ok(false) => Ok(Ok(None)),
+            Ok(true) => {
+                rows.push(pack(alloc, row, columns)?)?;
+                Ok(None)
+            }
+            Ok(false) => Ok(None),
             Err(fault) => {
                 let key = cell.key.clone()?;
                 let fault = fault_of(fault);
-                Ok(Err(Abort::Faulted { key, fault }))
+                Ok(Some(Abort::Faulted { key, fault }))
             }
         },
     }
@@ -176,9 +181,10 @@ pub fn read_cells(
 {
     let mut rows = List::new(alloc);
     for cell in cells {
-        match read_cell(alloc, columns, filter, cell)? {
-            Ok(row) => push_some(&mut rows, row)?,
-            Err(abort) => return Ok(Err(abort)),
+        let came = read_cell(alloc, columns, filter, cell, &mut rows)?;
+        match came {
+            None => {}
+            Some(abort) => return Ok(Err(abort)),
         }
     }
     Ok(Ok(rows))

@@ -117,12 +117,14 @@ fn verdict_in(came: Result<Item<'_>, EvalFault>) -> Verdict
     }
 }
 
+#[inline(never)]
 fn verdict_on(expr: &Expr, row: &[Value]) -> Verdict
     ensures { Judges result (val expr.now row.now) }
 {
     verdict_in(value(expr, row))
 }
 
+#[inline(never)]
 fn compare_items(op: CompareOp, a: &Expr, b: &Expr, row: &[Value]) -> Verdict
     ensures { Judges result (both (compared op) (val a.now row.now) (val b.now row.now)) }
 {
@@ -135,7 +137,7 @@ fn compare_items(op: CompareOp, a: &Expr, b: &Expr, row: &[Value]) -> Verdict
     }
 }
 
-// The number of either side of a comparison.
+// The number of an expression, of which most are plain.
 fn side(expr: &Expr, row: &[Value]) -> Number
     ensures { TellsNumber result (val expr.now row.now) }
 {
@@ -143,6 +145,18 @@ fn side(expr: &Expr, row: &[Value]) -> Number
         number_on(expr, row)
     } else {
         plain_number(expr, row)
+    }
+}
+
+/// The value of the expression on the row, found as a number where it is made of numbers alone.
+pub fn value_on<'a>(expr: &'a Expr, row: &'a [Value]) -> Result<Item<'a>, EvalFault>
+    ensures { outcome_in result ≡ val expr.now row.now }
+{
+    match side(expr, row) {
+        Number::Is(number) => Ok(Item::Number(number)),
+        Number::Overflow => Err(EvalFault::Overflow),
+        Number::ZeroDivide => Err(EvalFault::ZeroDivide),
+        Number::Other => value(expr, row),
     }
 }
 

@@ -120,10 +120,6 @@ shown_of columns predicate (Some row) = if_true (packed columns row) (truth_of (
 abbrev pub shown : List ℕ → Option Expr → Cell → Option (List ℕ)
 shown columns predicate cell = shown_of columns predicate cell.row
 
-abbrev pub ReadsOne : List ℕ → Option Expr → Cell → Result (Option (List ℕ)) Abort → Type 0
-ReadsOne columns predicate cell (Ok row) = (read_abort predicate cell ≡ None) × (row ≡ shown columns predicate cell)
-ReadsOne columns predicate cell (Err abort) = read_abort predicate cell ≡ Some abort
-
 abbrev pub ScansRows : List ℕ → Option Expr → List Cell → Result (List (List ℕ)) Abort → Type 0
 ScansRows columns predicate cells (Ok rows) = (first_abort (read_abort predicate) cells ≡ None) × (rows ≡ filter_map (shown columns predicate) cells)
 ScansRows columns predicate cells (Err abort) = first_abort (read_abort predicate) cells ≡ Some abort

@@ -1,6 +1,6 @@
-use Rattle.std.proofs.Common.{◌++◌, [], Ok, ap, sym, subst, ◌∙◌, take, get_or}
+use Rattle.std.proofs.Common.{◌≡◌, ◌++◌, [], None, ap, sym, ◌∙◌, take, get_or}
 use Rattle.std.specs.List.{cons_option, filter_map}
-use Rattle.one_thread.specs.Scaffold.Scans.{read_abort, shown, ReadsOne}
+use Rattle.one_thread.specs.Scaffold.Scans.{read_abort, shown}
 use Rattle.one_thread.proofs.Passing.{abort_more, filter_map_more}
 use Rattle.one_thread.proofs.scans.read_cells.Goals as goal
 
@@ -10,9 +10,10 @@ loop-cell-preserved c =
     let predicate = c.args.filter.now in
     let cells = c.args.cells.now in
     let i = c.loop-cell.cell-index in
-    let one : ReadsOne columns predicate (get_or cells i c.cell-item.result) (Ok c.in-Ok.row) = subst (λ cell. ReadsOne columns predicate cell (Ok c.in-Ok.row)) c.cell-item.is (subst (ReadsOne columns predicate c.cell-item.result) c.in-Ok.is c.in_ok-row.ensures) in (
-      c.in_ok-push_some-in-Ok.ensures ∙ ap (λ rows. rows ++ cons_option c.in-Ok.row []) c.loop-cell.invariant.0
-          ∙ ap (λ row. filter_map (shown columns predicate) (take i cells) ++ cons_option row []) one.1
-          ∙ sym (filter_map_more (shown columns predicate) cells i c.cell-item.result c.loop-cell-test.true),
-      abort_more (read_abort predicate) cells i c.cell-item.result c.loop-cell-test.true one.0 c.loop-cell.invariant.1,
+    let d = c.cell-item.result in
+    let none : read_abort predicate (get_or cells i d) ≡ None = ap (read_abort predicate) (sym c.cell-item.is) ∙ sym c.in_ok-came.ensures.abort ∙ c.in-None.is in (
+      c.in_ok-came.ensures.rows c.in-None.is ∙ ap (λ rows. rows ++ cons_option (shown columns predicate d) []) c.loop-cell.invariant.0
+          ∙ ap (λ cell. filter_map (shown columns predicate) (take i cells) ++ cons_option (shown columns predicate cell) []) c.cell-item.is
+          ∙ sym (filter_map_more (shown columns predicate) cells i d c.loop-cell-test.true),
+      abort_more (read_abort predicate) cells i d c.loop-cell-test.true none c.loop-cell.invariant.1,
     )
