@@ -1,5 +1,5 @@
 -- Cells before a place and from it on, and the rows that stand in them.
-use Rattle.std.proofs.Common.{◌≡◌, ℕ, zero, suc, ◌<◌, ◌≤◌, List, [], ◌∷◌, ◌++◌, length, take, drop, get_or, Bool, true, false, ◌||◌, Option, Some, None, refl, ap, sym, ◌∙◌, subst, arith}
+use Rattle.std.proofs.Common.{◌≡◌, ℕ, zero, suc, ◌<◌, ◌≤◌, List, [], ◌∷◌, ◌++◌, length, take, drop, get_or, Bool, true, false, ◌||◌, Option, Some, None, refl, ap, sym, subst, arith}
 use Rattle.std.specs.Prelude.{slice_set, IfSome}
 use Rattle.std.specs.List.{AllByRecursion, cons_option, filter_map, insert, list_any}
 use Rattle.std.specs.Ordering.{is_eq, is_lt}
@@ -15,7 +15,7 @@ use Rattle.one_thread.specs.One.{row_placed}
 use Rattle.one_thread.specs.Scaffold.Cells.{IsKeyed}
 use Rattle.one_thread.specs.declared.cells.Cell.{Cell}
 use Rattle.one_thread.proofs.Rising.{keys, rise-rest}
-use Rattle.sql_base.proofs.Orderings.{key_gt-differs, key_lt-back, key_lt-differs, key_lt-other}
+use Rattle.sql_base.proofs.Orderings.{key_gt-differs, key_lt-back, key_lt-differs}
 
 -- ---- facts of all elements
 

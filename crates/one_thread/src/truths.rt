@@ -1,6 +1,6 @@
 //! Whether a predicate is true on a row. Numbers and truth values are handed on by themselves, which a scan feels.
 
-ghost use Rattle.std.specs.Prelude.{◌≡◌, slice_get};
+ghost use Rattle.std.specs.Prelude.{◌≡◌, IfSome, Ok, slice_get};
 ghost use Rattle.sql_base.specs.Val.{both, column_item, compared, computed, filter_val, val, IsNumber, Outcome};
 ghost use Rattle.one_thread.specs.Scaffold.Values.{outcome_in, truth_of};
 ghost use Rattle.one_thread.specs.Scaffold.Truths.{Judges, TellsNumber};
@@ -27,13 +27,13 @@ pub enum Verdict {
     Other,
 }
 
-fn column_number(row: &[Value], column: u8) -> Number
-    ensures { TellsNumber result (column_item (slice_get row.now column)) }
+fn column_number(row: &[Value], column: u8) -> Option<i64>
+    ensures { IfSome result (λ n. column_item (slice_get row.now column) ≡ Ok (IsNumber n)) }
 {
     match row.get(column as usize) {
-        Some(Value::Int(number)) => Number::Is(*number),
-        Some(Value::Text(_)) => Number::Other,
-        None => Number::Other,
+        Some(Value::Int(number)) => Some(*number),
+        Some(Value::Text(_)) => None,
+        None => None,
     }
 }
 
@@ -65,38 +65,47 @@ fn made_of(op: ArithOp, left: Number, right: Number) -> Number
 }
 
 // The number of a literal or a column, which most operands are.
-fn plain_number(expr: &Expr, row: &[Value]) -> Number
-    ensures { TellsNumber result (val expr.now row.now) }
+fn plain_number(expr: &Expr, row: &[Value]) -> Option<i64>
+    ensures { IfSome result (λ n. val expr.now row.now ≡ Ok (IsNumber n)) }
 {
     match expr {
-        Expr::Number(number) => Number::Is(*number),
+        Expr::Number(number) => Some(*number),
         Expr::Column(column) => column_number(row, *column),
-        Expr::Arith(_, _, _) => Number::Other,
-        Expr::Text(_) => Number::Other,
-        Expr::Compare(_, _, _) => Number::Other,
-        Expr::And(_, _) => Number::Other,
-        Expr::Or(_, _) => Number::Other,
-        Expr::Not(_) => Number::Other,
+        Expr::Arith(_, _, _) => None,
+        Expr::Text(_) => None,
+        Expr::Compare(_, _, _) => None,
+        Expr::And(_, _) => None,
+        Expr::Or(_, _) => None,
+        Expr::Not(_) => None,
     }
 }
 
-fn is_computed(expr: &Expr) -> bool {
-    matches!(expr, Expr::Arith(_, _, _))
+fn plain_side(expr: &Expr, row: &[Value]) -> Number
+    ensures { TellsNumber result (val expr.now row.now) }
+{
+    match plain_number(expr, row) {
+        Some(number) => Number::Is(number),
+        None => Number::Other,
+    }
 }
 
-// The number of the expression on the row, without the detour over texts and truth values.
+// The number that an operator makes, without the detour over texts and truth values.
 fn number_on(expr: &Expr, row: &[Value]) -> Number
     ensures { TellsNumber result (val expr.now row.now) }
 {
     match expr {
-        Expr::Number(number) => Number::Is(*number),
-        Expr::Column(column) => column_number(row, *column),
-        Expr::Arith(op, a, b) => match (is_computed(a.get()), is_computed(b.get())) {
-            (true, true) => made_of(*op, number_on(a.get(), row), number_on(b.get(), row)),
-            (true, false) => made_of(*op, number_on(a.get(), row), plain_number(b.get(), row)),
-            (false, true) => made_of(*op, plain_number(a.get(), row), number_on(b.get(), row)),
-            (false, false) => made_of(*op, plain_number(a.get(), row), plain_number(b.get(), row)),
+        Expr::Arith(op, a, b) => match plain_number(a.get(), row) {
+            Some(x) => match plain_number(b.get(), row) {
+                Some(y) => made_number(*op, x, y),
+                None => made_of(*op, plain_side(a.get(), row), number_on(b.get(), row)),
+            },
+            None => match plain_number(b.get(), row) {
+                Some(_) => made_of(*op, number_on(a.get(), row), plain_side(b.get(), row)),
+                None => made_of(*op, number_on(a.get(), row), number_on(b.get(), row)),
+            },
         },
+        Expr::Number(_) => Number::Other,
+        Expr::Column(_) => Number::Other,
         Expr::Text(_) => Number::Other,
         Expr::Compare(_, _, _) => Number::Other,
         Expr::And(_, _) => Number::Other,
@@ -141,10 +150,9 @@ fn compare_items(op: CompareOp, a: &Expr, b: &Expr, row: &[Value]) -> Verdict
 fn side(expr: &Expr, row: &[Value]) -> Number
     ensures { TellsNumber result (val expr.now row.now) }
 {
-    if is_computed(expr) {
-        number_on(expr, row)
-    } else {
-        plain_number(expr, row)
+    match plain_number(expr, row) {
+        Some(number) => Number::Is(number),
+        None => number_on(expr, row),
     }
 }
 

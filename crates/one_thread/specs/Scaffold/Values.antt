@@ -1,5 +1,5 @@
 -- What the evaluator gives, as values of expressions.
-use Rattle.std.specs.Prelude.{ℕ, Option, Bool, false, Result, Ok, Err}
+use Rattle.std.specs.Prelude.{Bool, false, Result, Ok, Err}
 use Rattle.sql_base.specs.Val.{Item, Outcome, IsNumber, IsText, IsTruth, IsNothing}
 use Rattle.sql_base.specs.declared.faults.EvalFault.{EvalFault}
 use Rattle.one_thread.specs.declared.values.Item.{Item as Held}

@@ -1,4 +1,4 @@
-use Rattle.std.proofs.Common.{rules, ◌≡◌, ◌≤◌, ◌-◌, ◌++◌, length, map, take, drop, ap, sym, ◌∙◌, arith}
+use Rattle.std.proofs.Common.{rules, ◌≡◌, ◌-◌, ◌++◌, length, map, take, drop, ap, ◌∙◌, arith}
 use Rattle.std.specs.Prelude.{min}
 use Rattle.one_thread.specs.Scaffold.Cells.{ended}
 use Rattle.one_thread.proofs.Ending.{ended_within, same_behind, same_below}
