@@ -8,6 +8,8 @@ mod containers;
 #[cfg(test)]
 mod edges;
 #[cfg(test)]
+mod files;
+#[cfg(test)]
 mod hostile_codes;
 #[cfg(test)]
 mod journals;
