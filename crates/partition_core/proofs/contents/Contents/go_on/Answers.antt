@@ -1,4 +1,4 @@
-use Rattle.std.proofs.Common.{◌≡◌, ◌≤◌, List, length, arith, Some, true, ap, sym, ◌∙◌, subst}
+use Rattle.std.proofs.Common.{◌≡◌, ◌≤◌, length, arith, Some, true, ap, sym, ◌∙◌, subst}
 use Rattle.sql_base.specs.Keys.{key_eq}
 use Rattle.subset_blocks.specs.Blocks.{find_block}
 use Rattle.subset_blocks.specs.declared.Numbered.{Numbered}

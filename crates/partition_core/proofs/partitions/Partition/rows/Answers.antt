@@ -1,6 +1,5 @@
-use Rattle.std.proofs.Common.{◌≡◌, ◌++◌, ◌∷◌, [], List, append-nil, append_assoc, map, ap, sym, ◌∙◌}
+use Rattle.std.proofs.Common.{◌++◌, ◌∷◌, [], List, append_assoc, map, ap, sym, ◌∙◌}
 use Rattle.std.proofs.lemmas.List.{map-append}
-use Rattle.std.specs.Prelude.{filter_map}
 use Rattle.key_sequenced.specs.declared.Cell.{Cell}
 use Rattle.partition_core.proofs.Finding.{rows_more}
 use Rattle.partition_core.proofs.partitions.Partition.rows.Goals as goal
