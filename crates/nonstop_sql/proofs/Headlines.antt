@@ -1,5 +1,5 @@
 -- A legal record whose logs are in line has the headline.
-use Rattle.std.proofs.Common.{ℕ, List, [], length, Some, IfSome, IsSome, refl}
+use Rattle.std.proofs.Common.{ℕ, Bool, List, [], length, Some, IfSome, IsSome, refl}
 use Rattle.sql_base.specs.Scripts.{Lies}
 use Rattle.sql_base.specs.declared.scripts.Script.{Script}
 use Rattle.session_grammar.specs.Follows.{in_line}
@@ -14,7 +14,7 @@ use Rattle.driver_laws.specs.Scheduling.{Scheduled}
 use Rattle.step_world.specs.Runs.{AllCarried}
 use Rattle.step_world.specs.Tellings.{Telling}
 use Rattle.record_text.specs.Summary.{IsSummary}
-use Rattle.nonstop_sql.specs.Ends.{IsRun, Makes}
+use Rattle.nonstop_sql.specs.Ends.{IsRun, IsSaid, Makes, Outside}
 use Rattle.nonstop_sql.specs.declared.commands.Command.TheVariants.{Steps}
 use Rattle.alone_laws.proofs.OneSession.{alone_is_one_thread}
 
@@ -29,9 +29,9 @@ headlined script kept legal lines =
     }
 
 -- so `steps` and `trial` make of a script what they should
-pub made-run : (choices : List ℕ) (wires : List Telling) (script : Script) (kept : RunRecord) (text : List ℕ) → Headline script kept → Scheduled choices kept → AllCarried wires kept → IsText script kept text
-    → Makes (Steps choices) wires script (Some kept) text
-made-run choices wires script kept text headline scheduled carried is_text = (refl, (record { headline = headline; scheduled = scheduled; carried = carried }, is_text))
+pub made-run : (choices : List ℕ) (trace : Bool) (out : Outside) (script : Script) (kept : RunRecord) (text : List ℕ) → Headline script kept → Scheduled choices kept → AllCarried out.wires kept
+    → IsSaid trace out.collectors out.collectors' script kept text → Makes (Steps choices trace) out script (Some kept) text
+made-run choices trace out script kept text headline scheduled carried is_said = (refl, (record { headline = headline; scheduled = scheduled; carried = carried }, is_said))
 
 pub made-trial : (wires : List Telling) (script : Script) (kept : RunRecord) (text : List ℕ) → Headline script kept → Scheduled [] kept → AllCarried wires kept → IsSummary script kept text
     → IsSome (Some kept) × IfSome (Some kept) (λ k. IsRun [] wires script k × IsSummary script k text)

@@ -2,3 +2,4 @@ pub mod Known
 pub mod Endings
 pub mod Choices
 pub mod Headlines
+pub mod Seeable

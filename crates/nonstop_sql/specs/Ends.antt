@@ -1,6 +1,6 @@
 -- How a command ends.
 -- Each is told of what the sink took and of its faults, before and after.
-use Rattle.std.specs.Prelude.{◌≡◌, ◌≢◌, ◌≤◌, ℕ, List, [], take, drop, Option, Some, None, IsSome, IfSome, ◌↔◌, ◌⊎◌}
+use Rattle.std.specs.Prelude.{◌≡◌, ◌≢◌, ◌≤◌, ℕ, List, [], ◌++◌, map, take, drop, Bool, true, false, Option, Some, None, IsSome, IfSome, ◌↔◌, ◌⊎◌}
 use Rattle.std.specs.Io.KnownBytes.{Appends, Keeps}
 use Rattle.sql_base.specs.declared.scripts.Script.{Script}
 use Rattle.outside.specs.Counter.{Rose}
@@ -17,6 +17,9 @@ use Rattle.script_maker.specs.Making.{made}
 use Rattle.driver_laws.specs.Scheduling.{Scheduled}
 use Rattle.step_world.specs.Runs.{AllCarried}
 use Rattle.step_world.specs.Tellings.{Telling}
+use Rattle.outside.specs.Collecting.{Collecting}
+use Rattle.run_record.specs.Seen.{seen}
+use Rattle.trace_report.specs.Reports.{behind_all, texts}
 use Rattle.nonstop_sql.specs.declared.commands.Command.{Command}
 use Rattle.nonstop_sql.specs.declared.commands.Command.TheVariants as command
 use Rattle.nonstop_sql.specs.declared.outcome.Outcome.{Outcome}
@@ -27,30 +30,50 @@ pub record IsRun (choices : List ℕ) (wires : List Telling) (script : Script) (
   pub scheduled : Scheduled choices kept
   pub carried : AllCarried wires kept
 
+-- whether collectors see the record of its run
+abbrev pub is_traced : Command → Bool
+is_traced command.Check = false
+is_traced command.Oracle = false
+is_traced (command.Steps choices trace) = trace
+is_traced (command.Make number) = false
+is_traced (command.Trial number) = false
+
+-- what `steps` writes of a record: its text, and with a trace what the collectors say behind it, once each has seen all entries
+abbrev pub IsSaid : Bool → List Collecting → List Collecting → Script → RunRecord → List ℕ → Type 0
+IsSaid false before after script kept text = IsText script kept text
+IsSaid true before after script kept text =
+    (after ≡ map (behind_all (seen kept)) before) × ((plain : List ℕ) × IsText script kept plain × (text ≡ plain ++ texts after))
+
+-- what the wires of a run tell, and its collectors before and after it
+pub record Outside : Type 0 where
+  pub wires : List Telling
+  pub collectors : List Collecting
+  pub collectors' : List Collecting
+
 -- what a command makes of a script: the record of a run, if it makes one, and a text; `trial` runs it without choices
-abbrev pub Makes : Command → List Telling → Script → Option RunRecord → List ℕ → Type 0
-Makes command.Check wires script kept text = (kept ≡ None) × (text ≡ printed script)
-Makes command.Oracle wires script kept text = (kept ≡ None) × (text ≡ answer_text script)
-Makes (command.Steps choices) wires script kept text = IsSome kept × IfSome kept (λ k. IsRun choices wires script k × IsText script k text)
-Makes (command.Make number) wires script kept text = (kept ≡ None) × (text ≡ printed script)
-Makes (command.Trial number) wires script kept text = IsSome kept × IfSome kept (λ k. IsRun [] wires script k × IsSummary script k text)
+abbrev pub Makes : Command → Outside → Script → Option RunRecord → List ℕ → Type 0
+Makes command.Check out script kept text = (kept ≡ None) × (text ≡ printed script)
+Makes command.Oracle out script kept text = (kept ≡ None) × (text ≡ answer_text script)
+Makes (command.Steps choices trace) out script kept text = IsSome kept × IfSome kept (λ k. IsRun choices out.wires script k × IsSaid trace out.collectors out.collectors' script k text)
+Makes (command.Make number) out script kept text = (kept ≡ None) × (text ≡ printed script)
+Makes (command.Trial number) out script kept text = IsSome kept × IfSome kept (λ k. IsRun [] out.wires script k × IsSummary script k text)
 
 -- whether it keeps the record of a run
 abbrev pub KeepsRecord : Command → Type 0
 KeepsRecord command.Check = ⊥
 KeepsRecord command.Oracle = ⊥
-KeepsRecord (command.Steps choices) = Unit {0}
+KeepsRecord (command.Steps choices trace) = Unit {0}
 KeepsRecord (command.Make number) = ⊥
 KeepsRecord (command.Trial number) = Unit {0}
 
 -- it is done: the text that it made of the script is written
-abbrev pub IsDone : Command → List Telling → Option (List ℕ) → Option (List ℕ) → Option RunRecord → Script → Type 0
-IsDone asked wires taken taken' kept script = (text : List ℕ) × Makes asked wires script kept text × Appends taken taken' text
+abbrev pub IsDone : Command → Outside → Option (List ℕ) → Option (List ℕ) → Option RunRecord → Script → Type 0
+IsDone asked out taken taken' kept script = (text : List ℕ) × Makes asked out script kept text × Appends taken taken' text
 
 -- a write failed behind a front of such a text
-abbrev pub IsCut : Command → List Telling → Option (List ℕ) → Option (List ℕ) → Script → Type 0
-IsCut asked wires taken taken' script =
-    (kept : Option RunRecord) × (text : List ℕ) × Makes asked wires script kept text × ((count : ℕ) × Appends taken taken' (take count text))
+abbrev pub IsCut : Command → Outside → Option (List ℕ) → Option (List ℕ) → Script → Type 0
+IsCut asked out taken taken' script =
+    (kept : Option RunRecord) × (text : List ℕ) × Makes asked out script kept text × ((count : ℕ) × Appends taken taken' (take count text))
 
 abbrev pub SpellsNone : List ℕ → Type 0
 SpellsNone bytes = (script : Script) → Spells bytes script → ⊥
@@ -60,17 +83,17 @@ abbrev pub Spelled : List ℕ → (Script → Type 0) → Type 0
 Spelled bytes P = (script : Script) × Spells bytes script × P script
 
 -- what was made of a script is written: all of it, or a front of it before a write failed
-pub record Writes (asked : Command) (wires : List Telling) (script : Script) (taken taken' : Option (List ℕ)) (faults faults' : ℕ) (o : Outcome) : Type 0 where
+pub record Writes (asked : Command) (out : Outside) (script : Script) (taken taken' : Option (List ℕ)) (faults faults' : ℕ) (o : Outcome) : Type 0 where
   pub status : (o.status ≡ 0) ⊎ ((o.status ≡ 4) ⊎ (o.status ≡ 5))
   pub fault : o.fault ≡ None
   pub kept : IsSome o.kept ↔ ((o.status ≡ 0) × KeepsRecord asked)
   pub failed : o.status ≡ 4 → Rose faults faults'
   pub unwritten : o.status ≡ 5 → Keeps taken taken'
-  pub done : o.status ≡ 0 → IsDone asked wires taken taken' o.kept script
-  pub cut : o.status ≡ 4 → IsCut asked wires taken taken' script
+  pub done : o.status ≡ 0 → IsDone asked out taken taken' o.kept script
+  pub cut : o.status ≡ 4 → IsCut asked out taken taken' script
 
 -- bytes that were read: refused just where they spell no script, unless memory ran out, and else something is made of that script
-pub record EndsOnBytes (asked : Command) (wires : List Telling) (bytes : List ℕ) (taken taken' : Option (List ℕ)) (faults faults' : ℕ) (o : Outcome) : Type 0 where
+pub record EndsOnBytes (asked : Command) (out : Outside) (bytes : List ℕ) (taken taken' : Option (List ℕ)) (faults faults' : ℕ) (o : Outcome) : Type 0 where
   pub status : (o.status ≡ 1) ⊎ ((o.status ≡ 0) ⊎ ((o.status ≡ 4) ⊎ (o.status ≡ 5)))
   pub fault : (o.status ≡ 1) ↔ IsSome o.fault
   pub kept : IsSome o.kept ↔ ((o.status ≡ 0) × KeepsRecord asked)
@@ -78,8 +101,8 @@ pub record EndsOnBytes (asked : Command) (wires : List Telling) (bytes : List �
   pub refuses : SpellsNone bytes → (o.status ≡ 1) ⊎ (o.status ≡ 5)
   pub failed : o.status ≡ 4 → Rose faults faults'
   pub unwritten : o.status ≢ 0 → o.status ≢ 4 → Keeps taken taken'
-  pub done : o.status ≡ 0 → Spelled bytes (IsDone asked wires taken taken' o.kept)
-  pub cut : o.status ≡ 4 → Spelled bytes (IsCut asked wires taken taken')
+  pub done : o.status ≡ 0 → Spelled bytes (IsDone asked out taken taken' o.kept)
+  pub cut : o.status ≡ 4 → Spelled bytes (IsCut asked out taken taken')
 
 -- bytes that a source told: refused just where they spell no script, unless a read failed or memory ran out; done only once all of them were read,
 -- and refused once they were read to their end, or one byte beyond the most that a script has
@@ -97,7 +120,7 @@ WasRead left P = (bytes : List ℕ) × IfSome left (λ told. told ≡ bytes) × 
 abbrev pub number_of : Command → Option ℕ
 number_of command.Check = None
 number_of command.Oracle = None
-number_of (command.Steps choices) = None
+number_of (command.Steps choices trace) = None
 number_of (command.Make number) = Some number
 number_of (command.Trial number) = Some number
 
@@ -118,7 +141,7 @@ ReadsScript (Some number) left left' faults faults' o = ReadsNothing left left' 
 ReadsScript None left left' faults faults' o = IfSome left (λ bytes. EndsOnSource bytes left' o)
 
 -- the whole: the bytes that the source had left, if it told them, and its faults come first
-pub record Ends (asked : Command) (wires : List Telling) (left left' : Option (List ℕ)) (read_faults read_faults' : ℕ) (taken taken' : Option (List ℕ)) (write_faults write_faults' : ℕ) (o : Outcome) : Type 0 where
+pub record Ends (asked : Command) (out : Outside) (left left' : Option (List ℕ)) (read_faults read_faults' : ℕ) (taken taken' : Option (List ℕ)) (write_faults write_faults' : ℕ) (o : Outcome) : Type 0 where
   pub status : o.status ≤ 5
   pub words_stand : o.status ≢ 2
   pub fault : (o.status ≡ 1) ↔ IsSome o.fault
@@ -127,10 +150,14 @@ pub record Ends (asked : Command) (wires : List Telling) (left left' : Option (L
   pub write_failed : o.status ≡ 4 → Rose write_faults write_faults'
   pub unwritten : o.status ≢ 0 → o.status ≢ 4 → Keeps taken taken'
   pub told : ReadsScript (number_of asked) left left' read_faults read_faults' o
-  pub done : o.status ≡ 0 → OnScript (number_of asked) left (IsDone asked wires taken taken' o.kept)
-  pub cut : o.status ≡ 4 → OnScript (number_of asked) left (IsCut asked wires taken taken')
+  pub done : o.status ≡ 0 → OnScript (number_of asked) left (IsDone asked out taken taken' o.kept)
+  pub cut : o.status ≡ 4 → OnScript (number_of asked) left (IsCut asked out taken taken')
 
 -- how bytes end of which no script was read
 abbrev pub refusal_of : ReadFault → Outcome
 refusal_of (reads.Script fault) = record { status = 1; kept = None; fault = Some fault }
 refusal_of reads.NoMemory = record { status = 5; kept = None; fault = None }
+
+-- the collectors are left as they were: without a trace, and where no script was read
+abbrev pub LeavesCollectors : Command → ℕ → Type 0
+LeavesCollectors asked status = (is_traced asked ≡ false) ⊎ ((status ≡ 1) ⊎ (status ≡ 3))

@@ -1,6 +1,6 @@
 //! What the words of a command line ask for.
-ghost use Rattle.std.specs.Prelude.{◌≡◌, ◌≢◌, ℕ, List, [], map, string_bytes, nat_eq, get_or, Err, IfOk, IfSome, None};
-ghost use Rattle.nonstop_sql.specs.Commands.{AreChoices, IsChoice, IsCommand, IsNoCommand, IsNumeral, IsOneNumber};
+ghost use Rattle.std.specs.Prelude.{◌≡◌, ◌≢◌, ℕ, Bool, List, [], ◌∷◌, ◌++◌, count_by, map, string_bytes, nat_eq, get_or, Err, IfOk, OnOk, IfSome, None};
+ghost use Rattle.nonstop_sql.specs.Commands.{AreChoices, AsksSteps, IsChoice, IsCommand, IsNoCommand, IsNumeral, IsOneNumber, is_trace, other_words};
 ghost use Rattle.nonstop_sql.specs.declared.commands.Command.TheVariants as asked;
 ghost use Rattle.nonstop_sql.specs.declared.commands.WordsFault.TheVariants.{NoMemory, Refused};
 
@@ -18,7 +18,8 @@ pub enum Command {
     /// To print what one thread answers that runs the sessions in number order.
     Oracle,
     /// To run the script step by step: each action is the one that a choice picks among those that are enabled.
-    Steps { choices: List<u32> },
+    /// With a trace collectors see each entry of the record, and their texts follow.
+    Steps { choices: List<u32>, trace: bool },
     /// To print the script that is made from a number.
     Make { number: u64 },
     /// To run that script without choices, and print the summary of its record.
@@ -76,21 +77,69 @@ fn alone(command: Command, words: &[String]) -> Result<Command, WordsFault>
     }
 }
 
+/// Choices, among which `--trace` may stand once, at any place.
 fn steps(alloc: Global, words: &[String]) -> Result<Command, WordsFault>
-    ensures asked { IfOk result (λ command. (choices : List ℕ) × (command ≡ asked.Steps choices) × AreChoices (map string_bytes words.now) choices) }
-    ensures refused { result ≡ Err Refused → (choices : List ℕ) → AreChoices (map string_bytes words.now) choices → ⊥ }
+    ensures asked { IfOk result (λ command. (choices : List ℕ) × (trace : Bool) × (command ≡ asked.Steps choices trace) × AsksSteps (map string_bytes words.now) choices trace) }
+    ensures refused { result ≡ Err Refused → (choices : List ℕ) (trace : Bool) → AsksSteps (map string_bytes words.now) choices trace → ⊥ }
 {
-    if words.len() > MOST_CHOICES {
-        return Err(WordsFault::Refused);
+    let trace = match traces(words) {
+        0 => false,
+        1 => true,
+        _ => return Err(WordsFault::Refused),
+    };
+    match choices_of(alloc, words) {
+        Ok(choices) => Ok(Command::Steps { choices, trace }),
+        Err(fault) => Err(fault),
     }
+}
+
+/// How often `--trace` stands among the words.
+fn traces(words: &[String]) -> usize
+    ensures { result ≡ count_by is_trace (map string_bytes words.now) }
+{
+    let mut count = 0;
+    for word in words {
+        count += is_trace(word) as usize;
+    }
+    count
+}
+
+fn is_trace(word: &String) -> bool
+    ensures { result ≡ is_trace (string_bytes word.now) }
+{
+    word.as_str() == "--trace"
+}
+
+/// The choices that the words spell that aren't `--trace`.
+fn choices_of(alloc: Global, words: &[String]) -> Result<List<u32>, WordsFault>
+    ensures asked { IfOk result (AreChoices (other_words (map string_bytes words.now))) }
+    ensures refused { result ≡ Err Refused → (choices : List ℕ) → AreChoices (other_words (map string_bytes words.now)) choices → ⊥ }
+{
     let mut choices = List::new(alloc);
     for word in words {
-        match choice_of(word) {
-            Some(choice) => choices.push(choice)?,
-            None => return Err(WordsFault::Refused),
+        if is_trace(word) {
+            continue;
+        }
+        if let Err(fault) = push_choice(&mut choices, word) {
+            return Err(fault);
         }
     }
-    Ok(Command::Steps { choices })
+    if choices.items().len() > MOST_CHOICES {
+        return Err(WordsFault::Refused);
+    }
+    Ok(choices)
+}
+
+/// Adds the choice that the word spells.
+fn push_choice(choices: &mut List<u32>, word: &String) -> Result<(), WordsFault>
+    ensures pushed { OnOk result ((choice : ℕ) × IsChoice (string_bytes word.now) choice × (choices.new ≡ choices.old ++ choice ∷ [])) }
+    ensures refused { result ≡ Err Refused → (choice : ℕ) → IsChoice (string_bytes word.now) choice → ⊥ }
+{
+    match choice_of(word) {
+        Some(choice) => choices.push(choice)?,
+        None => return Err(WordsFault::Refused),
+    }
+    Ok(())
 }
 
 /// The number of 32 bits that a word spells in digits alone.

@@ -1,7 +1,7 @@
 //! The program `nsq`: reads a script of SQL, runs it, and writes what came of it.
 #![tactic(auto)]
 
-ghost use Rattle.std.specs.Prelude.{◌≡◌, ◌≤◌, ◌⊎◌, ℕ, List, IfOk, IfSome};
+ghost use Rattle.std.specs.Prelude.{◌≡◌, ◌≤◌, ◌⊎◌, ℕ, Bool, List, IfOk, IfSome};
 ghost use Rattle.run_record.specs.Headline.{Headline};
 ghost use Rattle.sql_base.specs.declared.scripts.Script.{Script};
 ghost use Rattle.script_maker.specs.Making.{made};
@@ -14,6 +14,7 @@ mod input;
 mod lines;
 mod outcome;
 mod output;
+mod saying;
 mod top;
 
 pub use commands::{Command, WordsFault, command_of};
@@ -21,11 +22,12 @@ pub use input::{ReadError, read_to_limit};
 pub use lines::line_of;
 pub use outcome::Outcome;
 pub use output::write_all;
-use outside::{Cycle, Passage, QuietGate, StdSink, StdSource, Wire};
+use outside::{Collector, Cycle, Passage, QuietGate, StdSink, StdSource, Wire};
 use sql_base::NoMemory;
 use std::process::ExitCode;
 use std::{env, io};
 pub use top::{WIRES, run, run_alone};
+use trace_report::{Counts, Lines, LockBook, QuantumTable};
 
 /// The words of the command line, the program's name first.
 fn words_of(rt: &HostRuntime) -> io::Result<Vec<String>> {
@@ -36,14 +38,15 @@ fn words_of(rt: &HostRuntime) -> io::Result<Vec<String>> {
     Ok(words)
 }
 
-/// Runs the words over standard input and output, a gate that holds nobody and wires that carry everything.
+/// Runs the words over standard input and output, a gate that holds nobody, wires that carry everything, and the four
+/// collectors.
 ///
 /// What is read and written isn't known here, but with status 0 the record is one of a run of some script.
 fn outcome_of(rt: &HostRuntime, words: &[String]) -> Result<Outcome, NoMemory>
     ensures refused { IfOk result (λ outcome. outcome.status ≡ 2 → IsNoCommand words.now) }
     ensures refuses { IsNoCommand words.now → IfOk result (λ outcome. (outcome.status ≡ 2) ⊎ (outcome.status ≡ 5)) }
     ensures ended { IfOk result (λ outcome. outcome.status ≤ 5) }
-    ensures ran { (choices : List ℕ) → IsCommand words.now (Steps choices) → IfOk result (λ outcome. outcome.status ≡ 0 → (script : Script) × IfSome outcome.kept (Headline script)) }
+    ensures ran { (choices : List ℕ) (trace : Bool) → IsCommand words.now (Steps choices trace) → IfOk result (λ outcome. outcome.status ≡ 0 → (script : Script) × IfSome outcome.kept (Headline script)) }
     ensures tried { (number : ℕ) → IsCommand words.now (Trial number) → IfOk result (λ outcome. outcome.status ≡ 0 → IfSome outcome.kept (Headline (made number))) }
 {
     let alloc = rt.alloc();
@@ -54,7 +57,11 @@ fn outcome_of(rt: &HostRuntime, words: &[String]) -> Result<Outcome, NoMemory>
     }
     let mut source = StdSource::new(rt.stdin());
     let mut sink = StdSink::new(rt.stdout());
-    let mut collectors = Vec::new(alloc);
+    let mut collectors: Vec<Box<dyn Collector>> = Vec::new(alloc);
+    collectors.push(Box::new(alloc, Lines::new(alloc))?)?;
+    collectors.push(Box::new(alloc, Counts::new())?)?;
+    collectors.push(Box::new(alloc, LockBook::new(alloc))?)?;
+    collectors.push(Box::new(alloc, QuantumTable::new(alloc))?)?;
     Ok(run(
         alloc,
         words,
@@ -89,3 +96,5 @@ mod run_rows;
 mod run_tests;
 #[cfg(test)]
 mod tests;
+#[cfg(test)]
+mod trace_tests;

@@ -13,7 +13,7 @@ const AMPLE: usize = 30_000;
 
 /// How the wires of a run answer.
 #[derive(Clone, Copy)]
-enum Paths {
+pub enum Paths {
     /// All carry everything.
     Carry,
     /// They go round these answers.
@@ -265,7 +265,7 @@ const CASES: [Case; 16] = [
 ];
 
 /// Lines, each with its end.
-fn joined(alloc: Global, lines: &[&str]) -> Result<Vec<u8>, NoMemory> {
+pub fn joined(alloc: Global, lines: &[&str]) -> Result<Vec<u8>, NoMemory> {
     let mut bytes = Vec::new(alloc);
     for line in lines {
         bytes.extend_from_slice(line.as_bytes())?;
@@ -274,7 +274,7 @@ fn joined(alloc: Global, lines: &[&str]) -> Result<Vec<u8>, NoMemory> {
     Ok(bytes)
 }
 
-fn words_of(alloc: Global, words: &[&str]) -> Result<Vec<String>, NoMemory> {
+pub fn words_of(alloc: Global, words: &[&str]) -> Result<Vec<String>, NoMemory> {
     let mut owned = Vec::new(alloc);
     for word in words {
         owned.push(String::from_str(alloc, word)?)?;
@@ -282,7 +282,7 @@ fn words_of(alloc: Global, words: &[&str]) -> Result<Vec<String>, NoMemory> {
     Ok(owned)
 }
 
-fn wires_of(alloc: Global, paths: Paths) -> Result<Vec<Box<dyn Wire + Send>>, NoMemory> {
+pub fn wires_of(alloc: Global, paths: Paths) -> Result<Vec<Box<dyn Wire + Send>>, NoMemory> {
     let mut wires: Vec<Box<dyn Wire + Send>> = Vec::new(alloc);
     for _ in 0..WIRES {
         match paths {

@@ -1,10 +1,10 @@
 //! The top call: from the words, the source and the wires to the sink.
-ghost use Rattle.std.specs.Prelude.{◌≡◌, ◌≤◌, ◌<◌, ◌⊎◌, map, vec_len, IfOk, None};
+ghost use Rattle.std.specs.Prelude.{◌≡◌, ◌≤◌, ◌<◌, ◌⊎◌, map, vec_len, false, IfOk, None};
 ghost use Rattle.std.specs.Io.KnownBytes.{Keeps};
 ghost use Rattle.sql_base.specs.Scripts.{IsScript};
 ghost use Rattle.script_maker.specs.Making.{made};
 ghost use Rattle.nonstop_sql.specs.Commands.{IsCommand, IsNoCommand};
-ghost use Rattle.nonstop_sql.specs.Ends.{Ends, EndsOnBytes, Makes, Writes, number_of, refusal_of};
+ghost use Rattle.nonstop_sql.specs.Ends.{Ends, EndsOnBytes, LeavesCollectors, Makes, Writes, is_traced, number_of, refusal_of};
 ghost use Rattle.nonstop_sql.specs.declared.commands.Command.{Command as Asked};
 
 use crate::checks::PlainChecks;
@@ -12,9 +12,10 @@ use crate::commands::{Command, WordsFault, command_of};
 use crate::input::{ReadError, read_to_limit};
 use crate::outcome::Outcome;
 use crate::output::write_all;
+use crate::saying::say;
 use one_thread::answer;
 use outside::{Collector, Gate, Sink, Source, Wire};
-use record_text::{summary, text};
+use record_text::summary;
 use run_record::RunRecord;
 use script_maker::{made_scripts_meet_rules, make_script};
 use sql_base::{NoMemory, Script};
@@ -44,8 +45,9 @@ pub fn run<S: Source, K: Sink, G: Gate>(
     ensures ended { result.status ≤ 5 }
     ensures untouched { result.status ≡ 2 → (source.new ≡ source.old) × (sink.new ≡ sink.old) }
     ensures unread { result.status ≡ 2 → Keeps (S.left source.old) (S.left source.new) × Keeps (K.taken sink.old) (K.taken sink.new) }
-    ensures unseen { collectors.new ≡ collectors.old }
-    ensures ran { (asked : Asked) → IsCommand words.now asked → 8 ≤ vec_len wires → Ends asked (map (λ w. record { first = first w; round = round w }) wires.items) (S.left source.old) (S.left source.new) (S.faults source.old) (S.faults source.new) (K.taken sink.old) (K.taken sink.new) (K.faults sink.old) (K.faults sink.new) result }
+    ensures unseen { (result.status ≡ 1) ⊎ ((result.status ≡ 2) ⊎ (result.status ≡ 3)) → collectors.new ≡ collectors.old }
+    ensures untraced { (asked : Asked) → IsCommand words.now asked → is_traced asked ≡ false → collectors.new ≡ collectors.old }
+    ensures ran { (asked : Asked) → IsCommand words.now asked → 8 ≤ vec_len wires → Ends asked (record { wires = map (λ w. record { first = first w; round = round w }) wires.items; collectors = map collecting collectors.old.items; collectors' = map collecting collectors.new.items }) (S.left source.old) (S.left source.new) (S.faults source.old) (S.faults source.new) (K.taken sink.old) (K.taken sink.new) (K.faults sink.old) (K.faults sink.new) result }
 {
     if wires.len() < WIRES {
         return Outcome::bare(2);
@@ -67,12 +69,12 @@ pub fn run_alone<S: Source, K: Sink>(
     collectors: &mut Vec<Box<dyn Collector>>,
 ) -> Outcome
     requires { 8 ≤ vec_len wires }
-    ensures unseen { collectors.new ≡ collectors.old }
-    ensures ran { Ends command.now (map (λ w. record { first = first w; round = round w }) wires.items) (S.left source.old) (S.left source.new) (S.faults source.old) (S.faults source.new) (K.taken sink.old) (K.taken sink.new) (K.faults sink.old) (K.faults sink.new) result }
+    ensures unseen { LeavesCollectors command.now result.status → collectors.new ≡ collectors.old }
+    ensures ran { Ends command.now (record { wires = map (λ w. record { first = first w; round = round w }) wires.items; collectors = map collecting collectors.old.items; collectors' = map collecting collectors.new.items }) (S.left source.old) (S.left source.new) (S.faults source.old) (S.faults source.new) (K.taken sink.old) (K.taken sink.new) (K.faults sink.old) (K.faults sink.new) result }
 {
     match number_of(command) {
-        Some(number) => run_made(alloc, command, number, sink, wires),
-        None => run_read(alloc, command, source, sink, wires),
+        Some(number) => run_made(alloc, command, number, sink, wires, collectors),
+        None => run_read(alloc, command, source, sink, wires, collectors),
     }
 }
 
@@ -96,13 +98,15 @@ fn run_made<K: Sink>(
     number: u64,
     sink: &mut K,
     wires: Vec<Box<dyn Wire + Send>>,
+    collectors: &mut Vec<Box<dyn Collector>>,
 ) -> Outcome
     requires { 8 ≤ vec_len wires }
-    ensures { Writes command.now (map (λ w. record { first = first w; round = round w }) wires.items) (made number) (K.taken sink.old) (K.taken sink.new) (K.faults sink.old) (K.faults sink.new) result }
+    ensures written { Writes command.now (record { wires = map (λ w. record { first = first w; round = round w }) wires.items; collectors = map collecting collectors.old.items; collectors' = map collecting collectors.new.items }) (made number) (K.taken sink.old) (K.taken sink.new) (K.faults sink.old) (K.faults sink.new) result }
+    ensures unseen { LeavesCollectors command.now result.status → collectors.new ≡ collectors.old }
 {
     made_scripts_meet_rules();
     match make_script(alloc, number) {
-        Ok(made) => run_script(alloc, command, &made, sink, wires),
+        Ok(made) => run_script(alloc, command, &made, sink, wires, collectors),
         Err(_) => Outcome::bare(5),
     }
 }
@@ -114,13 +118,15 @@ fn run_read<S: Source, K: Sink>(
     source: &mut S,
     sink: &mut K,
     wires: Vec<Box<dyn Wire + Send>>,
+    collectors: &mut Vec<Box<dyn Collector>>,
 ) -> Outcome
     requires reads { number_of command.now ≡ None }
     requires wires { 8 ≤ vec_len wires }
-    ensures { Ends command.now (map (λ w. record { first = first w; round = round w }) wires.items) (S.left source.old) (S.left source.new) (S.faults source.old) (S.faults source.new) (K.taken sink.old) (K.taken sink.new) (K.faults sink.old) (K.faults sink.new) result }
+    ensures ended { Ends command.now (record { wires = map (λ w. record { first = first w; round = round w }) wires.items; collectors = map collecting collectors.old.items; collectors' = map collecting collectors.new.items }) (S.left source.old) (S.left source.new) (S.faults source.old) (S.faults source.new) (K.taken sink.old) (K.taken sink.new) (K.faults sink.old) (K.faults sink.new) result }
+    ensures unseen { LeavesCollectors command.now result.status → collectors.new ≡ collectors.old }
 {
     match read_to_limit(alloc, source) {
-        Ok(bytes) => run_bytes(alloc, command, bytes.as_slice(), sink, wires),
+        Ok(bytes) => run_bytes(alloc, command, bytes.as_slice(), sink, wires, collectors),
         Err(ReadError::Failed) => Outcome::bare(3),
         Err(ReadError::NoMemory) => Outcome::bare(5),
     }
@@ -133,12 +139,14 @@ fn run_bytes<K: Sink>(
     bytes: &[u8],
     sink: &mut K,
     wires: Vec<Box<dyn Wire + Send>>,
+    collectors: &mut Vec<Box<dyn Collector>>,
 ) -> Outcome
     requires { 8 ≤ vec_len wires }
-    ensures { EndsOnBytes command.now (map (λ w. record { first = first w; round = round w }) wires.items) bytes.now (K.taken sink.old) (K.taken sink.new) (K.faults sink.old) (K.faults sink.new) result }
+    ensures ended { EndsOnBytes command.now (record { wires = map (λ w. record { first = first w; round = round w }) wires.items; collectors = map collecting collectors.old.items; collectors' = map collecting collectors.new.items }) bytes.now (K.taken sink.old) (K.taken sink.new) (K.faults sink.old) (K.faults sink.new) result }
+    ensures unseen { LeavesCollectors command.now result.status → collectors.new ≡ collectors.old }
 {
     match read_script(alloc, &PlainChecks, bytes) {
-        Ok(script) => run_script(alloc, command, &script, sink, wires),
+        Ok(script) => run_script(alloc, command, &script, sink, wires, collectors),
         Err(error) => refuse(error),
     }
 }
@@ -160,12 +168,14 @@ fn run_script<K: Sink>(
     script: &Script,
     sink: &mut K,
     wires: Vec<Box<dyn Wire + Send>>,
+    collectors: &mut Vec<Box<dyn Collector>>,
 ) -> Outcome
     requires script { IsScript script.now }
     requires wires { 8 ≤ vec_len wires }
-    ensures { Writes command.now (map (λ w. record { first = first w; round = round w }) wires.items) script.now (K.taken sink.old) (K.taken sink.new) (K.faults sink.old) (K.faults sink.new) result }
+    ensures written { Writes command.now (record { wires = map (λ w. record { first = first w; round = round w }) wires.items; collectors = map collecting collectors.old.items; collectors' = map collecting collectors.new.items }) script.now (K.taken sink.old) (K.taken sink.new) (K.faults sink.old) (K.faults sink.new) result }
+    ensures unseen { LeavesCollectors command.now result.status → collectors.new ≡ collectors.old }
 {
-    let Ok((kept, output)) = make(alloc, command, script, wires) else {
+    let Ok((kept, output)) = make(alloc, command, script, wires, collectors) else {
         return Outcome::bare(5);
     };
     match write_all(sink, output.as_slice()) {
@@ -184,17 +194,19 @@ fn make(
     command: &Command,
     script: &Script,
     wires: Vec<Box<dyn Wire + Send>>,
+    collectors: &mut Vec<Box<dyn Collector>>,
 ) -> Result<(Option<RunRecord>, Vec<u8>), NoMemory>
     requires script { IsScript script.now }
     requires wires { 8 ≤ vec_len wires }
-    ensures { IfOk result (λ made. Makes command.now (map (λ w. record { first = first w; round = round w }) wires.items) script.now made.0 made.1.items) }
+    ensures made { IfOk result (λ made. Makes command.now (record { wires = map (λ w. record { first = first w; round = round w }) wires.items; collectors = map collecting collectors.old.items; collectors' = map collecting collectors.new.items }) script.now made.0 made.1.items) }
+    ensures untraced { is_traced command.now ≡ false → collectors.new ≡ collectors.old }
 {
     match command {
         Command::Check => Ok((None, print_script(alloc, script)?)),
         Command::Oracle => Ok((None, answer(alloc, script)?)),
-        Command::Steps { choices } => {
+        Command::Steps { choices, trace } => {
             let kept = drive(alloc, script, choices.items(), wires)?;
-            let output = text(alloc, script, &kept)?;
+            let output = say(alloc, script, &kept, *trace, collectors)?;
             Ok((Some(kept), output))
         }
         Command::Make { .. } => Ok((None, print_script(alloc, script)?)),
