@@ -26,8 +26,6 @@ mod packing;
 #[cfg(test)]
 mod printing;
 #[cfg(test)]
-mod ranges;
-#[cfg(test)]
 mod replies;
 #[cfg(test)]
 mod scripts;
