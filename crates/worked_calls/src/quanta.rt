@@ -6,6 +6,7 @@ ghost use Rattle.sql_base.specs.Tables.{IsTable};
 ghost use Rattle.sql_base.specs.declared.tables.TableDef as declared;
 ghost use Rattle.quantum_runner.specs.Scaffold.Works.{HoldsRow, IsWork};
 
+use crate::asking::key_bytes;
 use crate::read_scripts::{script_of, statement_in, table_in};
 use key_sequenced::File;
 use lock_tables::LockTable;
@@ -100,15 +101,16 @@ fn a_quantum_deletes_and_locks_a_record(rt: HostRuntime) -> Result<(), Fail> {
     )?;
     let (reply, store) = deleted(alloc, &script)?;
     assert!(rt; is_one_change(&reply));
-    let [cell] = store.file.cells() else {
-        return Err("another number of cells".into());
+    let is_deleted = match store.file.find(&key_bytes(1)) {
+        Some(cell) => cell.now.is_none(),
+        None => false,
     };
-    assert!(rt; cell.now.is_none());
+    assert!(rt; is_deleted);
     let locks = store.locks.locks(alloc)?;
     let [lock] = locks.items() else {
         return Err("another number of locks".into());
     };
     assert_eq!(rt; (lock.holder, lock.mode), (WRITER, Mode::X));
-    assert_eq!(rt; lock.prefix.bytes(), b"\x80\0\0\0\0\0\0\x01".as_slice());
+    assert_eq!(rt; lock.prefix.bytes(), key_bytes(1).as_slice());
     Ok(())
 }
