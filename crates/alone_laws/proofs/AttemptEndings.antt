@@ -22,7 +22,6 @@ use Rattle.session_grammar.specs.declared.logs.LogEntry.{LogEntry}
 use Rattle.session_grammar.specs.declared.logs.LogEntry.TheVariants.{Asked, Drew}
 use Rattle.record_laws.proofs.Attempts.{IsWork}
 use Rattle.record_laws.proofs.Endings.{end_for, no_end_for, no_prepare_for, prepare_for}
-use Rattle.record_laws.proofs.Lists.{all_filter, all_passed}
 use Rattle.alone_laws.specs.Scaffold.Served.{Calm, Lively, Replies, served_by}
 use Rattle.alone_laws.specs.Scaffold.States.{AllCalm, AllReply, AreOpen}
 use Rattle.alone_laws.proofs.HistoriesFollow.{replies-back, served-append}
@@ -30,6 +29,7 @@ use Rattle.alone_laws.proofs.OneLive.{calm-higher, calm-lively, commit-calm, liv
 use Rattle.alone_laws.proofs.StatesBehind.{lively_served}
 use Rattle.alone_laws.proofs.ScanSteps.{state_at}
 use Rattle.std.proofs.lemmas.Option.{slice_get_within}
+use Rattle.sql_base.proofs.ListFacts.{all-filter, all_passed}
 
 -- one entry that was answered so
 pub record OneAsked (q : State) (ordinal : ℕ) (ask : Ask) (x : PartitionReply) (e : LogEntry) : Type 0 where
@@ -77,7 +77,7 @@ module _ (script : Script) (a : Attempt) (qs : List State) (open_qs : AreOpen sc
 
   pub lively_at : (k : ℕ) (q : State) → slice_get qs k ≡ Some q → Lively t (records q.cells) top (worked k q)
   lively_at k q there =
-      lively_served t a.ordinal refl (records q.cells) top (mine k) q (all_filter (is_for k) (IsWork a.ordinal) (joined a.parts) work)
+      lively_served t a.ordinal refl (records q.cells) top (mine k) q (all-filter (IsWork a.ordinal) (is_for k) (joined a.parts) work)
       (calm-lively t top q (calm k q there))
 
   told_at : (k : ℕ) (q : State) → slice_get qs k ≡ Some q → Replies (worked k q) (filter (is_for k) a.ending)
@@ -226,5 +226,5 @@ module _ (script : Script) (a : Attempt) (qs : List State) (open_qs : AreOpen sc
     pub floor_low : greatest_of floors ≤ top
     floor_low =
         fold_low 0 floors (omega arith)
-        (all_low (touched r a) prepares floors (all_filter is_touched (λ k. k < parts_of script.tables) (range_with_len 0 (parts_of script.tables)) (in_range 0 (parts_of script.tables) (omega arith)))
+        (all_low (touched r a) prepares floors (all-filter (λ k. k < parts_of script.tables) is_touched (range_with_len 0 (parts_of script.tables)) (in_range 0 (parts_of script.tables) (omega arith)))
         are_prepares (λ k within. all_passed (is_for k) IsLow prepares (low_at k within)))

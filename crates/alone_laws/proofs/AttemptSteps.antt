@@ -25,9 +25,8 @@ use Rattle.session_grammar.specs.Rows.{IsAsked, is_for}
 use Rattle.session_grammar.specs.declared.logs.Answer.TheVariants.{Reply, PathFailed, Stamp}
 use Rattle.session_grammar.specs.declared.logs.LogEntry.{LogEntry}
 use Rattle.session_grammar.specs.declared.logs.LogEntry.TheVariants.{Asked, Drew}
-use Rattle.session_grammar.proofs.Readings.{AreAsked}
+use Rattle.session_grammar.proofs.Readings.{AreAsked, ends-asked, prepares-asked}
 use Rattle.record_laws.proofs.Attempts.{IsWork, parts-work}
-use Rattle.record_laws.proofs.LaneAttempts.{ends-asked, prepares-asked}
 use Rattle.alone_laws.specs.Scaffold.Served.{Calm, Lively, served_by}
 use Rattle.alone_laws.specs.Scaffold.States.{AllCalm, AllLively, AllReply, AreOpen, IsFault, behind, views, world_of}
 use Rattle.alone_laws.proofs.AttemptEndings.{committed_at, floor_low, undone_at}

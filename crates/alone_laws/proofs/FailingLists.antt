@@ -11,8 +11,8 @@ use Rattle.session_grammar.specs.Plans.{Asker}
 use Rattle.session_grammar.specs.Rows.{is_for}
 use Rattle.session_grammar.specs.declared.logs.LogEntry.{LogEntry}
 use Rattle.session_grammar.specs.declared.plans.Sent.{Sent}
-use Rattle.run_record.proofs.EntryLists.{filter-whole}
 use Rattle.serial_laws.proofs.InLine.{AllFor, PartsRise, none_for, row-for, rows-for}
+use Rattle.sql_base.proofs.ListFacts.{filter-whole}
 
 -- the lists of subsets and of single requests are of their partition, however they end
 abbrev pub AreOwn : (Sent → List LogEntry → Option Abort → Type 0) → Type 0

@@ -22,7 +22,6 @@ use Rattle.key_sequenced.specs.Cells.{Keyed, records}
 use Rattle.one_thread.specs.One.{one, one_on}
 use Rattle.partition_map.specs.Map.{part_of}
 use Rattle.partition_state.specs.State.{State}
-use Rattle.run_record.proofs.EntryLists.{filter-whole}
 use Rattle.serial_laws.proofs.InLine.{AllFor, none_for as none_of}
 use Rattle.serial_laws.proofs.Rooms.{packed-back}
 use Rattle.serial_passes.proofs.Givings.{part_within}
@@ -40,6 +39,7 @@ use Rattle.alone_laws.proofs.FailingLists.{singles_own}
 use Rattle.alone_laws.proofs.TableFaults.{InsertFails, insert_fails}
 use Rattle.alone_laws.proofs.ScanSteps.{open_here, open_of, part_below, state_at, step_fails, views_itself, views_length, views_related}
 use Rattle.alone_laws.proofs.ScanPlans.{plan_is}
+use Rattle.sql_base.proofs.ListFacts.{filter-whole}
 
 -- one thing in turn
 one_in_turn : {A : Type 0} (R : A → List LogEntry → Option Abort → Type 0) (x : A) (lists : List (List LogEntry)) (end : Option Abort) → InTurn R (x ∷ []) lists end → R x (joined lists) end

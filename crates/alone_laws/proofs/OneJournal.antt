@@ -1,16 +1,16 @@
 -- The journal of one session is what its log drew, in its order.
 use Rattle.std.proofs.Common.{◌≡◌, ◌<◌, ◌-◌, ℕ, zero, suc, List, [], ◌∷◌, length, None, inl, inr, refl, ap, sym, ◌∙◌, subst, arith}
-use Rattle.std.specs.Prelude.{◌⊎◌, Contains, slice_get, slice_index_or, unwrap_or}
+use Rattle.std.specs.Prelude.{◌⊎◌, Contains, slice_get, unwrap_or}
 use Rattle.std.specs.List.{AllByRecursion}
 use Rattle.std.proofs.lemmas.Option.{slice_get_past}
 use Rattle.commit_journal.specs.Journal.{StampsRise}
 use Rattle.commit_journal.specs.declared.Drawn.{Drawn}
-use Rattle.record_laws.proofs.Lists.{all_at, all_slice}
 use Rattle.run_record.specs.Legal.{StampsDrawn, StampsOfLogRise, drawn_in}
 use Rattle.run_record.specs.Openings.{log_of}
 use Rattle.run_record.specs.declared.records.RunRecord.{RunRecord}
 use Rattle.serial_passes.proofs.Bases.{stamps_above}
 use Rattle.run_record.proofs.DrawnLogs.{drawn_by_logs}
+use Rattle.sql_base.proofs.ListFacts.{all_in, all_slice, Contains-further, first_or_behind}
 
 -- each stamp is below those behind it
 abbrev pub Rising : List Drawn → Type 0
@@ -34,21 +34,11 @@ log_rising (d ∷ e ∷ ds) h = (above_all d.stamp e ds h.0 h.1, log_rising (e �
 first_in : (d : Drawn) (ds : List Drawn) → Contains (d ∷ ds) d
 first_in d ds = (0, omega arith, refl)
 
-later_in : (d e : Drawn) (ds : List Drawn) → Contains ds e → Contains (d ∷ ds) e
-later_in d e ds c = (suc c.0, omega (arith, c.1), c.2)
-
 none_in : (e : Drawn) → Contains [] e → ⊥
 none_in e c = let below : c.0 < 0 = c.1 in omega arith
 
-place_in : (d e : Drawn) (ds : List Drawn) → Contains (d ∷ ds) e → (d ≡ e) ⊎ Contains ds e
-place_in d e ds c = by_place c.0 c.1 c.2
-  where
-    by_place : (k : ℕ) → k < length (d ∷ ds) → slice_index_or (d ∷ ds) k e ≡ e → (d ≡ e) ⊎ Contains ds e
-    by_place zero below is = inl is
-    by_place (suc k) below is = inr (k, omega arith, is)
-
 above_in : (d e : Drawn) (ds : List Drawn) → AllByRecursion (λ x. d.stamp < x.stamp) ds → Contains ds e → d.stamp < e.stamp
-above_in d e ds all c = all_at (λ (x : Drawn). d.stamp < x.stamp) e ds c all
+above_in d e ds all c = all_in (λ (x : Drawn). d.stamp < x.stamp) e ds c all
 
 -- two rising lists of the same elements are one
 same_rising : (xs ys : List Drawn) → Rising xs → Rising ys → ((d : Drawn) → Contains xs d → Contains ys d) → ((d : Drawn) → Contains ys d → Contains xs d) → xs ≡ ys
@@ -56,8 +46,8 @@ same_rising [] [] h k to back = refl
 same_rising [] (y ∷ ys) h k to back = absurd (none_in y (back y (first_in y ys)))
 same_rising (x ∷ xs) [] h k to back = absurd (none_in x (to x (first_in x xs)))
 same_rising (x ∷ xs) (y ∷ ys) h k to back =
-    let head : x ≡ y = by_places (place_in y x ys (to x (first_in x xs))) (place_in x y xs (back y (first_in y ys))) in
-    let tail = same_rising xs ys h.1 k.1 (λ d c. inner d c (place_in y d ys (to d (later_in x d xs c))) head) (λ d c. outer d c (place_in x d xs (back d (later_in y d ys c))) head) in
+    let head : x ≡ y = by_places (first_or_behind y x ys (to x (first_in x xs))) (first_or_behind x y xs (back y (first_in y ys))) in
+    let tail = same_rising xs ys h.1 k.1 (λ d c. inner d c (first_or_behind y d ys (to d (Contains-further x d xs c))) head) (λ d c. outer d c (first_or_behind x d xs (back d (Contains-further y d ys c))) head) in
     λ i. head i ∷ tail i
   where
     by_places : (y ≡ x) ⊎ Contains ys x → (x ≡ y) ⊎ Contains xs y → x ≡ y

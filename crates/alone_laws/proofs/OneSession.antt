@@ -32,7 +32,6 @@ use Rattle.session_grammar.specs.Follows.{AreAttempts, AreTries, Attempt, IsAtte
 use Rattle.session_grammar.specs.Rows.{is_for}
 use Rattle.session_grammar.specs.declared.logs.LogEntry.{LogEntry}
 use Rattle.record_laws.proofs.FiveFacts.{as_many, within_tables}
-use Rattle.record_laws.proofs.Lists.{all_filter, all_slice}
 use Rattle.serial_laws.proofs.AtParts.{legal_at}
 use Rattle.alone_laws.specs.Laws.{AloneIsOneThread}
 use Rattle.alone_laws.specs.Scaffold.Served.{Replies, served_by}
@@ -42,7 +41,7 @@ use Rattle.alone_laws.proofs.HistoriesFollow.{Follows, all_one, follows_log, own
 use Rattle.alone_laws.proofs.OneJournal.{journal_is}
 use Rattle.alone_laws.proofs.OpenTables.{opened_calm, opened_open, opened_world}
 use Rattle.alone_laws.proofs.StatesBehind.{behind_nothing, behind_twice, open_behind, reply_behind, reply_front}
-use Rattle.sql_base.proofs.ListFacts.{all_left, all_right, zip_length}
+use Rattle.sql_base.proofs.ListFacts.{all-filter, all_left, all_right, all_slice, zip_length}
 
 module _ (script : Script) (is : IsScript script) where
   -- what a session shows, and the tables behind it
@@ -198,7 +197,7 @@ module _ (script : Script) (kept : RunRecord) (legal : Legal script kept) (one :
       all_slice (λ history. AllByRecursion (λ e. Lies 1 (length script.sessions) e.opener) history) [] tt kept.histories k legal.entries_asked.openers in
       let own = all_one (history_of kept k) (subst (λ n. AllByRecursion (λ e. Lies 1 n e.opener) (history_of kept k)) one openers) in
       let served = legal.entries_asked.served k 1 l.within lies in
-      follows_log (filter (is_for k) (log_of kept 1)) p (history_of kept k) (all_filter (is_for k) IsHeard (log_of kept 1) heard) l.legal own (subst (AreServed (filter (is_for k) (log_of kept 1))) (own_whole (history_of kept k) own) served)
+      follows_log (filter (is_for k) (log_of kept 1)) p (history_of kept k) (all-filter IsHeard (is_for k) (log_of kept 1) heard) l.legal own (subst (AreServed (filter (is_for k) (log_of kept 1))) (own_whole (history_of kept k) own) served)
 
   long : length (openings script) ≡ length kept.histories
   long = zip_length IsLegal (openings script) kept.histories legal.histories_replay

@@ -14,8 +14,7 @@ use Rattle.serial_passes.proofs.LoadedTables.{opened_tables}
 use Rattle.alone_laws.specs.Scaffold.States.{AllCalm, AreOpen, IsOpen, world_of}
 use Rattle.partition_laws.specs.Keeping.{lives_in}
 use Rattle.state_facts.proofs.Openings.{opened-fresh}
-use Rattle.run_record.proofs.EntryLists.{all_joined}
-use Rattle.sql_base.proofs.ListFacts.{all_at}
+use Rattle.sql_base.proofs.ListFacts.{all_at, all_joined}
 
 -- the tables as they open are those of the LOAD rows
 pub opened_world : (script : Script) → IsScript script → world_of script.tables (openings script) ≡ loaded script

@@ -18,12 +18,12 @@ use Rattle.session_grammar.specs.declared.logs.Answer.TheVariants.{Reply, PathFa
 use Rattle.session_grammar.specs.declared.logs.LogEntry.{LogEntry}
 use Rattle.session_grammar.specs.declared.logs.LogEntry.TheVariants.{Asked, Drew}
 use Rattle.record_laws.proofs.Attempts.{IsWork}
-use Rattle.record_laws.proofs.Lists.{all_filter}
 use Rattle.alone_laws.specs.Scaffold.Served.{Lively, Replies, served_by}
 use Rattle.alone_laws.specs.Scaffold.States.{AllLively, AllReply, AreOpen, IsOpen, behind, views}
 use Rattle.alone_laws.proofs.HistoriesFollow.{replies-back, replies-front, served-append}
 use Rattle.alone_laws.proofs.OneLive.{lively-step}
 use Rattle.serial_passes.proofs.KeyCommits.{open_ask}
+use Rattle.sql_base.proofs.ListFacts.{all-filter}
 
 -- one list of entries behind another
 pub behind_twice : (i : ℕ) (qs : List State) (xs ys : List LogEntry) → behind i (behind i qs xs) ys ≡ behind i qs (xs ++ ys)
@@ -98,7 +98,7 @@ pub lively_behind : (t : TxnName) (ordinal : ℕ) → t ≡ record { session = 1
     → AllLively t bases top (behind 0 qs es)
 lively_behind t ordinal own bases top qs es work all k q there =
     let c = came_from 0 qs es k q there in
-    subst (Lively t (bases k) top) (sym c.same) (lively_served t ordinal own (bases k) top (filter (is_for (0 + k)) es) c.before (all_filter (is_for (0 + k)) (IsWork ordinal) es work) (all k c.before c.there))
+    subst (Lively t (bases k) top) (sym c.same) (lively_served t ordinal own (bases k) top (filter (is_for (0 + k)) es) c.before (all-filter (IsWork ordinal) (is_for (0 + k)) es work) (all k c.before c.there))
 
 -- partitions whose records are the same behind two lists
 pub views_alike : (xs ys : List LogEntry) (qs : List State) (i : ℕ)

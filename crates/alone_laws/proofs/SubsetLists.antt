@@ -34,7 +34,6 @@ use Rattle.session_grammar.specs.declared.logs.Answer.TheVariants.{Reply, PathFa
 use Rattle.session_grammar.specs.declared.logs.LogEntry.{LogEntry}
 use Rattle.session_grammar.specs.declared.logs.LogEntry.TheVariants.{Asked, Drew}
 use Rattle.run_record.specs.Tiles.{Cover, FaultFree, Interval, end_of, interval_from, interval_of, reply_changed, reply_rows}
-use Rattle.run_record.proofs.EntryLists.{all_joined}
 use Rattle.serial_laws.specs.Scaffold.Exact.{IsSet}
 use Rattle.serial_laws.specs.Scaffold.Stages.{Stage, Fresh, Onward, Awaits, RoomFor, ask_at, start_at}
 use Rattle.serial_laws.proofs.Chains.{Here, cover-more, here-step, interval_is, start_is}
@@ -50,6 +49,7 @@ use Rattle.alone_laws.proofs.QuantumFaults.{failed-step}
 use Rattle.alone_laws.proofs.OneLive.{lively-step, no_locked}
 use Rattle.key_sequenced.specs.Changes.{records_for}
 use Rattle.serial_laws.proofs.Steps.{was_handled}
+use Rattle.sql_base.proofs.ListFacts.{all_joined}
 
 pub ascends : (p : State) → Keeps p → Ascend (records p.cells)
 ascends p k = Ascend-rows_by (λ cell. cell.now) p.cells (cells_ascend p.cells k.cells.rise)

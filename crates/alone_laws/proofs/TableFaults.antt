@@ -21,12 +21,12 @@ use Rattle.one_thread.specs.One.{Done, done_unless, fault_on, first_fault, new_r
 use Rattle.partition_map.specs.Map.{part_of}
 use Rattle.range_finder.specs.Range.{is_in, range}
 use Rattle.run_record.specs.Tiles.{FaultFree}
-use Rattle.run_record.proofs.EntryLists.{all_joined}
 use Rattle.serial_passes.specs.Scaffold.Pieces.{AreOf, in_range}
 use Rattle.serial_passes.proofs.Blocks.{AreKeyed, ranged, rows_in}
 use Rattle.serial_passes.proofs.Placings.{IsAbsent, absent_of, no_duplicate}
 use Rattle.serial_passes.proofs.Sweeping.{Sweeps}
 use Rattle.serial_passes.proofs.Tables.{AllFrom, joined, rows_of, rows_of-joined}
+use Rattle.sql_base.proofs.ListFacts.{all_joined, any-push_left, any-push_right}
 
 -- of the records in the range of a statement, this is the first that faults
 pub record RangeFails (table : TableDef) (statement : Statement) (v : List Keyed) (key : List ℕ) (fault : Fault) : Type 0 where
@@ -164,22 +164,6 @@ module _ (table : TableDef) (t : ℕ) (row : List Value) (abort : Abort) where
   joined_keyed i [] (y ∷ ys) all = absurd all
   joined_keyed i (x ∷ xs) [] all = absurd all
 
-  any_left : (f : Keyed → Bool) (xs ys : List Keyed) → list_any f xs ≡ true → list_any f (xs ++ ys) ≡ true
-  any_left f [] ys h = absurd (false≢true h)
-  any_left f (x ∷ xs) ys h = by_test (f x) h (any_left f xs ys)
-    where
-      by_test : (b : Bool) → (b || list_any f xs) ≡ true → (list_any f xs ≡ true → list_any f (xs ++ ys) ≡ true) → (b || list_any f (xs ++ ys)) ≡ true
-      by_test true h rest = refl
-      by_test false h rest = rest h
-
-  any_right : (f : Keyed → Bool) (xs ys : List Keyed) → list_any f ys ≡ true → list_any f (xs ++ ys) ≡ true
-  any_right f [] ys h = h
-  any_right f (x ∷ xs) ys h = rw (any_right f xs ys h) (either (f x))
-    where
-      either : (b : Bool) → (b || true) ≡ true
-      either true = refl
-      either false = refl
-
   any_rows : (ks : List Keyed) → AreKeyed table ks → list_any (λ k. key_eq k.key (key_of table row)) ks ≡ true → list_any (λ r. key_eq (key_of table r) (key_of table row)) (rows_in ks) ≡ true
   any_rows [] keyed h = absurd (false≢true h)
   any_rows (k ∷ ks) (here, keyed) h = by_test (key_eq k.key (key_of table row)) refl h (any_rows ks keyed)
@@ -196,11 +180,11 @@ module _ (table : TableDef) (t : ℕ) (row : List Value) (abort : Abort) where
       ⊎ ((fault : Fault) × (abort ≡ Faulted (key_of table row) fault) × IsAbsent (key_of table row) ks × (first_failing table.checks row ≡ Some fault))
 
   told_before : (x rest : List Keyed) → IsAbsent (key_of table row) x → Told rest → Told (x ++ rest)
-  told_before x rest absent (inl h) = inl (h.0, any_right (λ k. key_eq k.key (key_of table row)) x rest h.1)
+  told_before x rest absent (inl h) = inl (h.0, any-push_right (λ k. key_eq k.key (key_of table row)) x rest h.1)
   told_before x rest absent (inr h) = inr (h.0, h.1, all_joined (λ k. key_eq k.key (key_of table row) ≡ false) x rest absent h.2, h.3)
 
   told_behind : (x rest : List Keyed) → Told x → IsAbsent (key_of table row) rest → Told (x ++ rest)
-  told_behind x rest (inl h) absent = inl (h.0, any_left (λ k. key_eq k.key (key_of table row)) x rest h.1)
+  told_behind x rest (inl h) absent = inl (h.0, any-push_left (λ k. key_eq k.key (key_of table row)) x rest h.1)
   told_behind x rest (inr h) absent = inr (h.0, h.1, all_joined (λ k. key_eq k.key (key_of table row) ≡ false) x rest h.2 absent, h.3)
 
   absent_behind : (i : ℕ) (bx by : List (List Keyed)) → part_of table (key_of table row) < i → All i bx by → IsAbsent (key_of table row) (joined bx)

@@ -21,8 +21,9 @@ use Rattle.run_record.specs.declared.records.Act.TheVariants.{Send, Take, ByHand
 use Rattle.run_record.specs.declared.records.RunRecord.{RunRecord}
 use Rattle.outside.specs.Wire.{is_loss}
 use Rattle.driver_laws.specs.Moves.{with_acts, with_drawn, with_entry, with_log}
-use Rattle.driver_laws.proofs.Seats.{length_set, one_other, one_same, seat_other, seat_same}
+use Rattle.driver_laws.proofs.Seats.{one_other, one_same, seat_other, seat_same}
 use Rattle.driver_laws.specs.Scheduling.{Adds, OfSession, Posted, Step, Lost, Sent, Took, Served, Drawn as DrewIt, actor_of, answer_steps, drawer_of, is_act_of, is_by, is_old, newly, posted_of, seen_more, steps_by, steps_of}
+use Rattle.sql_base.proofs.ListFacts.{length-set}
 
 steps_append : (xs ys : List LogEntry) → steps_of (xs ++ ys) ≡ steps_of xs ++ steps_of ys
 steps_append [] ys = refl
@@ -165,7 +166,7 @@ module _ (kept : RunRecord) (tails now : ℕ → List Step) where
       record {
         acts = refl;
         sessions = refl;
-        parts = length_set kept.histories part (history_of kept part ++ e ∷ []);
+        parts = length-set kept.histories part (history_of kept part ++ e ∷ []);
         logs = λ n lies. append-nil (steps_of (log_of kept n) ++ tails n) ∙ ap (λ (ss : List Step). steps_of (log_of kept n) ++ ss) (sym (same n));
         draws = append-nil names;
         news = λ q in_it. entry_news kept part e.opener e.sync within e refl refl h q;
@@ -200,7 +201,7 @@ module _ (kept : RunRecord) (tails now : ℕ → List Step) where
     adds_own no_draw no_mail =
         record {
           acts = refl;
-          sessions = length_set kept.logs (session - 1) log;
+          sessions = length-set kept.logs (session - 1) log;
           parts = refl;
           logs = logs_now;
           draws = none_drawn no_draw;
@@ -231,7 +232,7 @@ module _ (kept : RunRecord) (tails now : ℕ → List Step) where
   adds_hand_old session lies part sync request r within old is none others =
       record {
         acts = refl;
-        sessions = length_set kept.logs (session - 1) (log_of kept session ++ Asked part sync request 4 (Reply r) ∷ []);
+        sessions = length-set kept.logs (session - 1) (log_of kept session ++ Asked part sync request 4 (Reply r) ∷ []);
         parts = refl;
         logs = logs_now session lies (Asked part sync request 4 (Reply r)) (ByHand session part sync) (Served part sync) refl (steps_of_hand session part sync) (hand_steps (log_of kept session) (tails session) part sync request r is) none others;
         draws = append-nil names;
@@ -245,8 +246,8 @@ module _ (kept : RunRecord) (tails now : ℕ → List Step) where
   adds_hand_new e lies part request r within h is none others =
       record {
         acts = refl;
-        sessions = length_set kept.logs (e.opener - 1) (log_of kept e.opener ++ Asked part e.sync request 4 (Reply r) ∷ []);
-        parts = length_set kept.histories part (history_of kept part ++ e ∷ []);
+        sessions = length-set kept.logs (e.opener - 1) (log_of kept e.opener ++ Asked part e.sync request 4 (Reply r) ∷ []);
+        parts = length-set kept.histories part (history_of kept part ++ e ∷ []);
         logs = logs_now e.opener lies (Asked part e.sync request 4 (Reply r)) (ByHand e.opener part e.sync) (Served part e.sync) refl (steps_of_hand e.opener part e.sync)
             (hand_steps (log_of kept e.opener) (tails e.opener) part e.sync request r is) none others;
         draws = append-nil names;
@@ -260,7 +261,7 @@ module _ (kept : RunRecord) (tails now : ℕ → List Step) where
       let session = d.name.session in
       record {
         acts = refl;
-        sessions = length_set kept.logs (session - 1) (log_of kept session ++ Drew d.name d.floor answer ∷ []);
+        sessions = length-set kept.logs (session - 1) (log_of kept session ++ Drew d.name d.floor answer ∷ []);
         parts = refl;
         logs = logs_now session lies (Drew d.name d.floor answer) (Draw session) DrewIt refl (steps_of_draw session)
             (ap (λ (ss : List Step). (steps_of (log_of kept session) ++ ss) ++ DrewIt ∷ []) is ∙ drawn_steps (log_of kept session) d answer) none others;

@@ -1,6 +1,6 @@
 -- A history by what stands in it: what was served of a log is that each entry was asked and each reply has its entry.
 use Rattle.std.proofs.lemmas.Bool.{eqb-true}
-use Rattle.std.proofs.Common.{subst, true, ◌≡◌, ◌≤◌, ◌<◌, ℕ, zero, suc, List, [], ◌∷◌, refl, ap, sym, ◌∙◌, inl, inr, arith}
+use Rattle.std.proofs.Common.{subst, true, ◌≡◌, ◌≤◌, ◌<◌, ℕ, zero, List, [], ◌∷◌, refl, ap, sym, ◌∙◌, inl, inr, arith}
 use Rattle.std.specs.Prelude.{◌⊎◌, Contains}
 use Rattle.std.specs.List.{AllByRecursion}
 use Rattle.dp_messages.specs.declared.replies.Reply.{Reply as PartitionReply}
@@ -12,15 +12,10 @@ use Rattle.session_grammar.specs.declared.logs.Answer.TheVariants.{Reply, PathFa
 use Rattle.session_grammar.specs.declared.logs.LogEntry.{LogEntry}
 use Rattle.session_grammar.specs.declared.logs.LogEntry.TheVariants.{Asked, Drew}
 use Rattle.run_record.specs.Legal.{AreServed, IsServed}
-use Rattle.record_laws.proofs.Lists.{all_at, all_both, all_weaker}
 use Rattle.record_laws.proofs.Served.{served_all}
 use Rattle.driver_laws.specs.Gathering.{Climbs, HasEntry, IsAskedIn, IsOver, ServedBySentences, SyncsClimb}
-use Rattle.sql_base.proofs.ListFacts.{Contains-further}
-
--- what is in a list is its first, or behind it
-first_or_behind : {X : Type 0} (x y : X) (xs : List X) → Contains (x ∷ xs) y → (x ≡ y) ⊎ Contains xs y
-first_or_behind x y xs (zero, lt, is) = inl is
-first_or_behind x y xs (suc k, lt, is) = inr (k, omega (arith, lt), is)
+use Rattle.sql_base.proofs.ListFacts.{Contains-further, all-weaker, all_in, all_of_both, first_or_behind}
+use Rattle.driver_laws.proofs.Serving.{over_weaker}
 
 module _ (part : ℕ) where
   -- the entries behind the first are later than it
@@ -29,7 +24,7 @@ module _ (part : ℕ) where
 
   -- where the entry is of a request behind the first, it is later
   later_behind : (sync : ℕ) (zs : List LogEntry) (e : Entry) → AllByRecursion (IsOver sync) zs → IsAskedIn part zs e → sync < e.sync
-  later_behind sync zs e over h = all_at (IsOver sync) (Asked part e.sync e.request h.0 h.1) zs h.2 over
+  later_behind sync zs e over h = all_in (IsOver sync) (Asked part e.sync e.request h.0 h.1) zs h.2 over
 
   -- an entry later than the first request was asked behind it
   asked_behind : (p s l : ℕ) (q : Request) (w : Answer) (zs : List LogEntry) (e : Entry) → s < e.sync → IsAskedIn part (Asked p s q l w ∷ zs) e → IsAskedIn part zs e
@@ -48,13 +43,9 @@ module _ (part : ℕ) where
   entry_behind e es (Asked p s q l (Stamp stamp)) over h = absurd h
   entry_behind e es (Drew n f w) over h = tt
 
-  over_weaker : (n m : ℕ) → m ≤ n → (z : LogEntry) → IsOver n z → IsOver m z
-  over_weaker n m le (Asked p s q l w) h = omega (arith, le, h)
-  over_weaker n m le (Drew x f w) h = tt
-
   -- none of some later entries is that of the first request
   no_entry : (p s l : ℕ) (q : Request) (r : PartitionReply) (es : List Entry) → AllByRecursion (IsBehind s) es → HasEntry es (Asked p s q l (Reply r)) → ⊥
-  no_entry p s l q r es behind h = let lt = all_at (IsBehind s) h.0 es h.1 behind in omega (arith, lt, h.2)
+  no_entry p s l q r es behind h = let lt = all_in (IsBehind s) h.0 es h.1 behind in omega (arith, lt, h.2)
 
   module _ (p s l : ℕ) (q : Request) (w : Answer) (zs : List LogEntry) (e : Entry) (es : List Entry) (zc : Climbs (Asked p s q l w ∷ zs)) (ec : SyncsClimb (e ∷ es))
       (asked : AllByRecursion (IsAskedIn part (Asked p s q l w ∷ zs)) (e ∷ es)) (has : AllByRecursion (HasEntry (e ∷ es)) (Asked p s q l w ∷ zs)) where
@@ -69,16 +60,16 @@ module _ (part : ℕ) where
         request = cc same
 
         those : AllByRecursion (IsAskedIn part zs) es
-        those = all_both (IsBehind e.sync) (IsAskedIn part (Asked p s q l w ∷ zs)) (IsAskedIn part zs) (λ f lt h. asked_behind p s l q w zs f (omega (arith, lt, sync)) h) es ec.0 asked.1
+        those = all_of_both (IsBehind e.sync) (IsAskedIn part (Asked p s q l w ∷ zs)) (IsAskedIn part zs) (λ f lt h. asked_behind p s l q w zs f (omega (arith, lt, sync)) h) es ec.0 asked.1
 
         theirs : AllByRecursion (HasEntry es) zs
-        theirs = all_both (IsOver s) (HasEntry (e ∷ es)) (HasEntry es) (λ z over h. entry_behind e es z (over_weaker s e.sync (omega (arith, sync)) z over) h) zs zc.0 has.1
+        theirs = all_of_both (IsOver s) (HasEntry (e ∷ es)) (HasEntry es) (λ z over h. entry_behind e es z (over_weaker s e.sync (omega (arith, sync)) z over) h) zs zc.0 has.1
 
         by_answer : (v : Answer) → HasEntry (e ∷ es) (Asked p s q l v) → AreServed zs es → AreServed (Asked p s q l v ∷ zs) (e ∷ es)
         by_answer (Reply r) h served = elim (first_or_behind e h.0 es h.1) [ inl own ↦ ((sym sync, sym request), ap (λ (x : Entry). x.reply) own ∙ h.3, served) | inr behind ↦ too_late h behind ]
           where
             too_late : (h : HasEntry (e ∷ es) (Asked p s q l (Reply r))) → Contains es h.0 → AreServed (Asked p s q l (Reply r) ∷ zs) (e ∷ es)
-            too_late h behind = let lt = all_at (IsBehind e.sync) h.0 es behind ec.0 in absurd (omega (arith, lt, h.2, sync))
+            too_late h behind = let lt = all_in (IsBehind e.sync) h.0 es behind ec.0 in absurd (omega (arith, lt, h.2, sync))
         by_answer PathFailed h served = inr ((sym sync, sym request), served)
         by_answer (Stamp stamp) h served = absurd h
 
@@ -87,10 +78,10 @@ module _ (part : ℕ) where
     at_later lt rest = by_answer w has.0 (rest those has.1)
       where
         late : AllByRecursion (IsBehind s) (e ∷ es)
-        late = (lt, all_weaker (IsBehind e.sync) (IsBehind s) (λ f more. omega (arith, lt, more)) es ec.0)
+        late = (lt, all-weaker (IsBehind e.sync) (IsBehind s) (λ f more. omega (arith, lt, more)) es ec.0)
 
         those : AllByRecursion (IsAskedIn part zs) (e ∷ es)
-        those = all_both (IsBehind s) (IsAskedIn part (Asked p s q l w ∷ zs)) (IsAskedIn part zs) (λ f more h. asked_behind p s l q w zs f more h) (e ∷ es) late asked
+        those = all_of_both (IsBehind s) (IsAskedIn part (Asked p s q l w ∷ zs)) (IsAskedIn part zs) (λ f more h. asked_behind p s l q w zs f more h) (e ∷ es) late asked
 
         by_answer : (v : Answer) → HasEntry (e ∷ es) (Asked p s q l v) → AreServed zs (e ∷ es) → AreServed (Asked p s q l v ∷ zs) (e ∷ es)
         by_answer (Reply r) h served = absurd (no_entry p s l q r (e ∷ es) late h)
@@ -100,7 +91,7 @@ module _ (part : ℕ) where
   pub gathered : (zs : List LogEntry) (es : List Entry) → Climbs zs → SyncsClimb es → AllByRecursion (IsAskedIn part zs) es → AllByRecursion (HasEntry es) zs → AreServed zs es
   gathered [] [] zc ec asked has = refl
   gathered [] (e ∷ es) zc ec asked has = absurd (omega (arith, asked.0.2.1))
-  gathered (Drew n f w ∷ zs) es zc ec asked has = gathered zs es zc ec (all_weaker (IsAskedIn part (Drew n f w ∷ zs)) (IsAskedIn part zs) pass es asked) has.1
+  gathered (Drew n f w ∷ zs) es zc ec asked has = gathered zs es zc ec (all-weaker (IsAskedIn part (Drew n f w ∷ zs)) (IsAskedIn part zs) pass es asked) has.1
     where
       pass : (e : Entry) → IsAskedIn part (Drew n f w ∷ zs) e → IsAskedIn part zs e
       pass e h = elim (first_or_behind (Drew n f w) (Asked part e.sync e.request h.0 h.1) zs h.2) [ inl same ↦ absurd (cc same) | inr behind ↦ (h.0, h.1, behind) ]
@@ -117,12 +108,12 @@ module _ (part : ℕ) where
       ]
 
   -- and the other way round: what was served was asked, and what was replied stands there
-  all_in : (zs : List LogEntry) → AllByRecursion (λ z. is_for part z ≡ true) zs → AllByRecursion (λ z. Contains zs z × (is_for part z ≡ true)) zs
-  all_in [] h = tt
-  all_in (z ∷ zs) h = (((zero, omega arith, refl), h.0), all_weaker (λ x. Contains zs x × (is_for part x ≡ true)) (λ x. Contains (z ∷ zs) x × (is_for part x ≡ true)) (λ x c. (Contains-further z x zs c.0, c.1)) zs (all_in zs h.1))
+  all_of_part : (zs : List LogEntry) → AllByRecursion (λ z. is_for part z ≡ true) zs → AllByRecursion (λ z. Contains zs z × (is_for part z ≡ true)) zs
+  all_of_part [] h = tt
+  all_of_part (z ∷ zs) h = (((zero, omega arith, refl), h.0), all-weaker (λ x. Contains zs x × (is_for part x ≡ true)) (λ x. Contains (z ∷ zs) x × (is_for part x ≡ true)) (λ x c. (Contains-further z x zs c.0, c.1)) zs (all_of_part zs h.1))
 
   pub was_asked : (zs : List LogEntry) (es : List Entry) → AllByRecursion (λ z. is_for part z ≡ true) zs → AreServed zs es → AllByRecursion (IsAskedIn part zs) es
-  was_asked zs es here h = served_all (λ z. Contains zs z × (is_for part z ≡ true)) (IsAskedIn part zs) of zs es (all_in zs here) h
+  was_asked zs es here h = served_all (λ z. Contains zs z × (is_for part z ≡ true)) (IsAskedIn part zs) of zs es (all_of_part zs here) h
     where
       of : (p s : ℕ) (q : Request) (l : ℕ) (w : Answer) (e : Entry) → Contains zs (Asked p s q l w) × (is_for part (Asked p s q l w) ≡ true) → IsServed e s q → IsAskedIn part zs e
       of p s q l w e c is =
@@ -140,10 +131,10 @@ module _ (part : ℕ) where
   has_entries [] es h = tt
   has_entries (Drew n f w ∷ zs) es h = (tt, has_entries zs es h)
   has_entries (Asked p s q l (Reply r) ∷ zs) [] h = absurd h
-  has_entries (Asked p s q l (Reply r) ∷ zs) (e ∷ es) h = ((e, (zero, omega arith, refl), h.0.0, h.1), all_weaker (HasEntry es) (HasEntry (e ∷ es)) (has_more e es) zs (has_entries zs es h.2))
+  has_entries (Asked p s q l (Reply r) ∷ zs) (e ∷ es) h = ((e, (zero, omega arith, refl), h.0.0, h.1), all-weaker (HasEntry es) (HasEntry (e ∷ es)) (has_more e es) zs (has_entries zs es h.2))
   has_entries (Asked p s q l PathFailed ∷ zs) [] h = (tt, has_entries zs [] h)
   has_entries (Asked p s q l PathFailed ∷ zs) (e ∷ es) (inl h) = (tt, has_entries zs (e ∷ es) h)
-  has_entries (Asked p s q l PathFailed ∷ zs) (e ∷ es) (inr h) = (tt, all_weaker (HasEntry es) (HasEntry (e ∷ es)) (has_more e es) zs (has_entries zs es h.1))
+  has_entries (Asked p s q l PathFailed ∷ zs) (e ∷ es) (inr h) = (tt, all-weaker (HasEntry es) (HasEntry (e ∷ es)) (has_more e es) zs (has_entries zs es h.1))
   has_entries (Asked p s q l (Stamp stamp) ∷ zs) es h = absurd h
 
 pub served_by_sentences : ServedBySentences

@@ -19,7 +19,6 @@ use Rattle.state_facts.proofs.Openings.{opened-fresh}
 use Rattle.record_laws.specs.SoFar.{LegalSoFar, way_of}
 use Rattle.record_laws.proofs.Completing.{open_entry}
 use Rattle.record_laws.proofs.FitsSoFar.{zip_at}
-use Rattle.record_laws.proofs.Lists.{all_joined, all_through, all_weaker}
 use Rattle.record_laws.proofs.Sessions.{by_opener}
 use Rattle.driver_laws.specs.Gathering.{Gathered, HasEntry, IsAskedIn, HasItsEntry, SyncsClimb}
 use Rattle.driver_laws.specs.Moves.{IsPosted, asked_so_far}
@@ -28,7 +27,7 @@ use Rattle.driver_laws.proofs.Gathering.{gathered}
 use Rattle.driver_laws.proofs.Journals.{stamps_gathered}
 use Rattle.driver_laws.proofs.Seats.{contains_filter}
 use Rattle.driver_laws.proofs.Serving.{asked_rises}
-use Rattle.sql_base.proofs.ListFacts.{all_places}
+use Rattle.sql_base.proofs.ListFacts.{all-weaker, all_joined, all_places, all_through}
 
 -- of one opener
 abbrev SyncsRise : List Entry → Type 0
@@ -61,7 +60,7 @@ module _ (script : Script) (kept : RunRecord) (ways : List UnderWay) (g : Gather
   asked : AllByRecursion (IsAskedIn part (filter (is_for part) (asked_so_far kept ways session))) es
   asked =
       all_through (by_opener session) (IsAskedIn part (filter (is_for part) (asked_so_far kept ways session))) (history_of kept part)
-      (all_weaker (λ (e : Entry). IsPosted kept ways e.opener part e.sync e.request) (λ (e : Entry). by_opener session e ≡ true → IsAskedIn part (filter (is_for part) (asked_so_far kept ways session)) e) its (history_of kept part) (g.posted part within))
+      (all-weaker (λ (e : Entry). IsPosted kept ways e.opener part e.sync e.request) (λ (e : Entry). by_opener session e ≡ true → IsAskedIn part (filter (is_for part) (asked_so_far kept ways session)) e) its (history_of kept part) (g.posted part within))
     where
       its : (e : Entry) → IsPosted kept ways e.opener part e.sync e.request → by_opener session e ≡ true → IsAskedIn part (filter (is_for part) (asked_so_far kept ways session)) e
       its e h own =
@@ -73,7 +72,7 @@ module _ (script : Script) (kept : RunRecord) (ways : List UnderWay) (g : Gather
   has =
       all_through (is_for part) (HasEntry es) (asked_so_far kept ways session)
       (all_joined (λ z. is_for part z ≡ true → HasEntry es z) (log_of kept session) (unanswered (way_of ways session))
-      (all_weaker (HasItsEntry kept session) (λ z. is_for part z ≡ true → HasEntry es z) told (log_of kept session) (g.heard session lies)) (not_told (way_of ways session)))
+      (all-weaker (HasItsEntry kept session) (λ z. is_for part z ≡ true → HasEntry es z) told (log_of kept session) (g.heard session lies)) (not_told (way_of ways session)))
     where
       told : (z : LogEntry) → HasItsEntry kept session z → is_for part z ≡ true → HasEntry es z
       told (Asked p s q l (Reply r)) h here =

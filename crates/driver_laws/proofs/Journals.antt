@@ -22,11 +22,10 @@ use Rattle.session_grammar.specs.UnderWay.{BeginsWith, IsWith, Merges, Awaiting,
 use Rattle.record_laws.proofs.Attempts.{attempts_counted}
 use Rattle.record_laws.proofs.Completing.{filled_merges}
 use Rattle.record_laws.proofs.Drawing.{Later, Rising, drawn-append, drawn_rising}
-use Rattle.record_laws.proofs.Lists.{all_at, all_filter, all_passed, all_weaker}
 use Rattle.driver_laws.specs.Gathering.{JournalGathered}
 use Rattle.driver_laws.proofs.Seats.{contains_filter}
 use Rattle.run_record.proofs.DrawnLogs.{of_logs}
-use Rattle.sql_base.proofs.ListFacts.{all_places}
+use Rattle.sql_base.proofs.ListFacts.{all-filter, all-weaker, all_in, all_passed, all_places, all_left}
 
 abbrev is_of : ℕ → Drawn → Bool
 is_of session d = d.name.session == session
@@ -40,14 +39,14 @@ rise_up : (last : ℕ) (journal : List Drawn) → StampsRise last journal → Al
 rise_up last [] h = (tt, tt)
 rise_up last (d ∷ journal) h =
     let rest = rise_up d.stamp journal h.1 in
-    ((omega (arith, h.0), all_weaker (λ (e : Drawn). d.stamp < e.stamp) (λ (e : Drawn). last < e.stamp) (λ e lt. omega (arith, lt, h.0)) journal rest.0), (rest.0, rest.1))
+    ((omega (arith, h.0), all-weaker (λ (e : Drawn). d.stamp < e.stamp) (λ (e : Drawn). last < e.stamp) (λ e lt. omega (arith, lt, h.0)) journal rest.0), (rest.0, rest.1))
 
 up_filter : (q : Drawn → Bool) (ds : List Drawn) → Up ds → Up (filter q ds)
 up_filter q [] h = tt
 up_filter q (d ∷ ds) h = by_test (q d) refl (up_filter q ds h.1)
   where
     by_test : (b : Bool) → q d ≡ b → Up (filter q ds) → Up (filter q (d ∷ ds))
-    by_test true e rest = rw e (all_filter q (λ (x : Drawn). d.stamp < x.stamp) ds h.0, rest)
+    by_test true e rest = rw e (all-filter (λ (x : Drawn). d.stamp < x.stamp) q ds h.0, rest)
     by_test false e rest = rw e rest
 
 up_rise : (ds : List Drawn) → Up ds → StampsOfLogRise ds
@@ -94,13 +93,9 @@ merged_rising log answered (Drew n f (Reply r) ∷ zs) (inr m) h = merged_rising
 merged_rising log answered (Drew n f PathFailed ∷ zs) (inr m) h = merged_rising log m.0 zs m.2 h
 merged_rising log answered (Drew n f (Stamp stamp) ∷ zs) (inr m) h = merged_rising log m.0 zs m.2 h.1
 
-all_first : (P : Drawn → Type 0) (xs ys : List Drawn) → AllByRecursion P (xs ++ ys) → AllByRecursion P xs
-all_first P [] ys h = tt
-all_first P (x ∷ xs) ys h = (h.0, all_first P xs ys h.1)
-
 rising_front : (xs ys : List Drawn) → Rising (xs ++ ys) → Rising xs
 rising_front [] ys h = tt
-rising_front (x ∷ xs) ys h = (all_first (Later x) xs ys h.0, rising_front xs ys h.1)
+rising_front (x ∷ xs) ys h = (all_left (Later x) xs ys h.0, rising_front xs ys h.1)
 
 log_rising : (script : Script) (session : ℕ) (log : List LogEntry) (way : UnderWay) → BeginsWith script session way log → Rising (drawn_in log)
 log_rising script session log way begins = by_way way begins.2
@@ -156,7 +151,7 @@ stamps_gathered script kept ways is logs g =
   where
     to_log : (d : Drawn) → Contains kept.journal d → (s : ℕ) × Contains (drawn_in (log_of kept s)) d
     to_log d c =
-        let ls = all_at (λ (x : Drawn). Lies 1 (length script.sessions) x.name.session) d kept.journal c g.named in
+        let ls = all_in (λ (x : Drawn). Lies 1 (length script.sessions) x.name.session) d kept.journal c g.named in
         (d.name.session, subst (λ (ds : List Drawn). Contains ds d) (sym (g.own d.name.session ls)) (contains_filter (is_of d.name.session) kept.journal d (eq-eqb d.name.session d.name.session refl) c))
 
     of_session : (d : Drawn) (s : ℕ) → Lies 1 (length script.sessions) s → Contains (drawn_in (log_of kept s)) d → Contains kept.journal d

@@ -25,16 +25,18 @@ use Rattle.record_laws.specs.SoFar.{LegalSoFar, way_of}
 use Rattle.commit_journal.specs.Journal.{last_stamp}
 use Rattle.record_laws.proofs.Drawing.{not_drawn}
 use Rattle.record_laws.proofs.FitsSoFar.{zip_at}
-use Rattle.record_laws.proofs.Lists.{all_joined, all_slice, all_through, all_weaker}
 use Rattle.record_laws.proofs.Sessions.{by_opener}
 use Rattle.driver_laws.specs.Moves.{IsNext, IsPosted, MayAnswer, asked_so_far, next_drawn, with_drawn, with_entry, with_log, with_way}
 use Rattle.session_grammar.specs.UnderWay.{AreAbove, Sending, Awaiting, Drawing, UnderWay, unanswered, Asks, TakesStamp, TakesAnswer}
 use Rattle.driver_laws.proofs.Openings.{still_served}
-use Rattle.driver_laws.proofs.Seats.{all_set, all_zip_set, contains_filter, length_set, seat_other, seat_same}
-use Rattle.driver_laws.proofs.Serving.{IsEarlier, asked_rises, legal_more, new_later, serves_new}
-use Rattle.driver_laws.proofs.Stamping.{below_new, log_more, once_more, rise_more}
+use Rattle.driver_laws.proofs.Seats.{all_zip_set, contains_filter, seat_other, seat_same}
+use Rattle.driver_laws.proofs.Serving.{IsEarlier, asked_rises, new_later, serves_new}
+use Rattle.driver_laws.proofs.Stamping.{below_new, log_more, once_more}
 use Rattle.driver_laws.proofs.Taking.{IsAmong, taken_served}
 use Rattle.run_record.proofs.DrawnLogs.{drawn_by_logs, of_logs}
+use Rattle.commit_journal.proofs.Rising.{rise_more}
+use Rattle.partition_state.proofs.Replays.{IsLegal-push}
+use Rattle.sql_base.proofs.ListFacts.{all-weaker, all_joined, all_slice, all_through, length-set, all-set}
 
 -- another log of one session, and another journal
 abbrev moved_to : RunRecord → ℕ → List LogEntry → List Drawn → RunRecord
@@ -81,7 +83,7 @@ stamps_still kept session log within same h =
         λ x. let at = (drawn_by_logs kept h d).0 x in (at.0, subst (λ (ds : List Drawn). Contains ds d) (sym (same_drawn kept session log kept.journal within same at.0)) at.1),
         λ at. (drawn_by_logs kept h d).1 (at.0, subst (λ (ds : List Drawn). Contains ds d) (same_drawn kept session log kept.journal within same at.0) at.1),
       ));
-      in_order = all_set (λ (l : List LogEntry). StampsOfLogRise (drawn_in l)) kept.logs (session - 1) log
+      in_order = all-set (λ (l : List LogEntry). StampsOfLogRise (drawn_in l)) kept.logs (session - 1) log
           (subst StampsOfLogRise (sym same) (all_slice (λ (l : List LogEntry). StampsOfLogRise (drawn_in l)) [] tt kept.logs (session - 1) h.in_order)) h.in_order;
     }
 
@@ -93,7 +95,7 @@ stamps_more kept session log d within more is new h =
       rise = rise_more 0 kept.journal d h.rise is;
       once = once_more kept.journal d h.once new;
       drawn = of_logs (with_drawn (with_log kept session log) d) (λ x. (to_log x, to_journal x));
-      in_order = all_set (λ (l : List LogEntry). StampsOfLogRise (drawn_in l)) kept.logs (session - 1) log (subst StampsOfLogRise (sym more) own_rise) h.in_order;
+      in_order = all-set (λ (l : List LogEntry). StampsOfLogRise (drawn_in l)) kept.logs (session - 1) log (subst StampsOfLogRise (sym more) own_rise) h.in_order;
     }
   where
     to_log : (x : Drawn) → Contains (kept.journal ++ d ∷ []) x → (s : ℕ) × Contains (drawn_in (log_of (moved_to kept session log (kept.journal ++ d ∷ [])) s)) x
@@ -146,7 +148,7 @@ module _ (script : Script) (kept : RunRecord) (ways : List UnderWay) (legal : Le
           stamps_drawn = stamps;
           entries_asked = record { openers = legal.entries_asked.openers; served = λ part s within ls. elim (cases_eq (s - 1) (session - 1)) [ inl here ↦ served_own part s within ls here | inr differ ↦ served_other part s within ls differ ] };
           logs_begin = record {
-            logs = length_set kept.logs (session - 1) log ∙ legal.logs_begin.logs;
+            logs = length-set kept.logs (session - 1) log ∙ legal.logs_begin.logs;
             each = λ s ls. elim (cases_eq (s - 1) (session - 1)) [ inl here ↦ asks_own s ls here | inr differ ↦ asks_other s ls differ ];
           };
         }
@@ -232,7 +234,7 @@ module _ (script : Script) (kept : RunRecord) (ways : List UnderWay) (legal : Le
   own_history y at h =
       let both : Some next.0 ≡ Some y = sym next.1 ∙ at in
       let same : next.0 ≡ y = cc both in
-      subst (λ (q : State). IsLegal q (history_of kept part ++ e ∷ [])) same (legal_more next.0 (history_of kept part) e (subst (λ (q : State). IsLegal q (history_of kept part)) (sym same) h) eight next.2)
+      subst (λ (q : State). IsLegal q (history_of kept part ++ e ∷ [])) same (IsLegal-push next.0 (history_of kept part) e (subst (λ (q : State). IsLegal q (history_of kept part)) (sym same) h) eight next.2)
 
   zipped : AllZip IsLegal (openings script) (with_entry kept part e).histories
   zipped = all_zip_set IsLegal [] (openings script) kept.histories part (history_of kept part ++ e ∷ []) own_history legal.histories_replay
@@ -245,7 +247,7 @@ module _ (script : Script) (kept : RunRecord) (ways : List UnderWay) (legal : Le
       let found = zip_at IsLegal (openings script) kept.histories [] part legal.histories_replay within in
       let both : Some found.0 ≡ Some next.0 = sym found.1 ∙ next.1 in
       let same : found.0 ≡ next.0 = cc both in
-      legal_more next.0 (history_of kept part) e (subst (λ (q : State). IsLegal q (history_of kept part)) same found.2) eight next.2
+      IsLegal-push next.0 (history_of kept part) e (subst (λ (q : State). IsLegal q (history_of kept part)) same found.2) eight next.2
 
   -- what the opener had served before has earlier syncs
   pub later : AllByRecursion (λ (f : Entry). f.opener ≡ e.opener → f.sync < e.sync) (history_of kept part)
@@ -254,7 +256,7 @@ module _ (script : Script) (kept : RunRecord) (ways : List UnderWay) (legal : Le
   earlier : AllByRecursion (IsEarlier e.sync) (filter (by_opener e.opener) (history_of kept part))
   earlier =
       all_through (by_opener e.opener) (IsEarlier e.sync) (history_of kept part)
-      (all_weaker (λ (f : Entry). f.opener ≡ e.opener → f.sync < e.sync) (λ (f : Entry). by_opener e.opener f ≡ true → IsEarlier e.sync f) (λ f to t. to (eqb-true f.opener e.opener t)) (history_of kept part) later)
+      (all-weaker (λ (f : Entry). f.opener ≡ e.opener → f.sync < e.sync) (λ (f : Entry). by_opener e.opener f ≡ true → IsEarlier e.sync f) (λ f to t. to (eqb-true f.opener e.opener t)) (history_of kept part) later)
 
   -- the message is one that its session posted
   module _ (posted : IsPosted kept ways e.opener part e.sync e.request) where
@@ -293,7 +295,7 @@ module _ (script : Script) (kept : RunRecord) (ways : List UnderWay) (legal : Le
           histories_replay = zipped;
           stamps_drawn = record { rise = legal.stamps_drawn.rise; once = legal.stamps_drawn.once; drawn = legal.stamps_drawn.drawn; in_order = legal.stamps_drawn.in_order };
           entries_asked = record {
-            openers = all_set (AllByRecursion (λ (f : Entry). Lies 1 (length script.sessions) f.opener)) kept.histories part (history_of kept part ++ e ∷ [])
+            openers = all-set (AllByRecursion (λ (f : Entry). Lies 1 (length script.sessions) f.opener)) kept.histories part (history_of kept part ++ e ∷ [])
                 (all_joined (λ (f : Entry). Lies 1 (length script.sessions) f.opener) (history_of kept part) (e ∷ [])
                 (all_slice (λ (history : List Entry). AllByRecursion (λ (f : Entry). Lies 1 (length script.sessions) f.opener) history) [] tt kept.histories part legal.entries_asked.openers) (lies, tt)) legal.entries_asked.openers;
             served = λ q s in_it ls. elim (cases_eq q part) [ inl here ↦ at_own q s ls here | inr differ ↦ at_other q s in_it ls differ ];
@@ -310,5 +312,5 @@ module _ (script : Script) (kept : RunRecord) (ways : List UnderWay) (legal : Le
             → AreServed (filter (is_for q) (asked_so_far kept ways s)) (filter (by_opener s) (history_of (with_entry kept part e) q))
         at_other q s in_it ls differ =
             let same : history_of (with_entry kept part e) q ≡ history_of kept q = seat_other [] kept.histories part q (history_of kept part ++ e ∷ []) differ in
-            let in_old : q < length kept.histories = subst (λ n. q < n) (length_set kept.histories part (history_of kept part ++ e ∷ [])) in_it in
+            let in_old : q < length kept.histories = subst (λ n. q < n) (length-set kept.histories part (history_of kept part ++ e ∷ [])) in_it in
             subst (λ (fs : List Entry). AreServed (filter (is_for q) (asked_so_far kept ways s)) (filter (by_opener s) fs)) (sym same) (legal.entries_asked.served q s in_old ls)

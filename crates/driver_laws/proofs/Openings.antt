@@ -14,8 +14,8 @@ use Rattle.run_record.specs.Legal.{AreServed}
 use Rattle.session_grammar.specs.UnderWay.{AreAbove, Sending, Awaiting, Drawing, UnderWay, unanswered, IsOpen}
 use Rattle.record_laws.proofs.Completing.{open_entry}
 use Rattle.record_laws.proofs.Driving.{served_join}
-use Rattle.record_laws.proofs.Lists.{all_filter}
 use Rattle.record_laws.proofs.Served.{unserved}
+use Rattle.sql_base.proofs.ListFacts.{all-filter}
 
 abbrev parts : List Sending → List ℕ
 parts sends = map (λ (s : Sending). s.part) sends
@@ -87,4 +87,4 @@ all_unanswered (Drawing name floor) = tt
 pub still_served : (part : ℕ) (log : List LogEntry) (way : UnderWay) (es : List Entry) → AreServed log es → AreServed (log ++ open_for part way) es
 still_served part log way es h =
     subst (AreServed (log ++ open_for part way)) (append-nil es)
-    (served_join log (open_for part way) es [] h (none_served (open_for part way) (all_filter (is_for part) IsUnanswered (unanswered way) (all_unanswered way))))
+    (served_join log (open_for part way) es [] h (none_served (open_for part way) (all-filter IsUnanswered (is_for part) (unanswered way) (all_unanswered way))))

@@ -1,6 +1,6 @@
 -- What a partition keeps for an opener: the sync and the reply of its last entry.
-use Rattle.std.proofs.Common.{◌≡◌, ◌≢◌, ◌≤◌, ◌<◌, ◌-◌, ℕ, zero, suc, List, [], ◌∷◌, ◌++◌, length, replicate, Some, None, true, false, refl, ap, sym, ◌∙◌, subst, inl, inr, arith, Bool, get_or, map}
-use Rattle.std.proofs.lemmas.Bool.{cases_eq, eq-eqb, eqb-true, false≢true}
+use Rattle.std.proofs.Common.{◌≡◌, ◌≢◌, ◌≤◌, ◌<◌, ◌-◌, ℕ, zero, suc, List, [], ◌∷◌, ◌++◌, length, Some, None, true, false, refl, ap, sym, ◌∙◌, subst, inl, inr, arith, Bool, get_or, map}
+use Rattle.std.proofs.lemmas.Bool.{eq-eqb, eqb-true, false≢true}
 use Rattle.std.proofs.lemmas.List.Elements.{filter-append}
 use Rattle.std.specs.Prelude.{◌⊎◌, filter, slice_get, unwrap_or, Contains, nat_le, ◌||◌}
 use Rattle.std.specs.List.{AllByRecursion, list_any}
@@ -9,10 +9,8 @@ use Rattle.sql_base.specs.Scripts.{Lies}
 use Rattle.sql_base.specs.declared.scripts.Script.{Script}
 use Rattle.one_thread.specs.One.{loaded}
 use Rattle.dp_messages.specs.declared.replies.Reply.{Reply as PartitionReply}
-use Rattle.dp_messages.specs.declared.requests.Request.{Request}
 use Rattle.partition_state.specs.History.{IsLegal, replay}
 use Rattle.partition_state.specs.State.{Opener, State, new_opener, opener_of}
-use Rattle.partition_state.specs.Step.{step}
 use Rattle.partition_state.specs.declared.entries.Entry.{Entry}
 use Rattle.session_grammar.specs.Rows.{fits, is_for}
 use Rattle.session_grammar.specs.declared.logs.Answer.TheVariants.{Reply}
@@ -21,18 +19,11 @@ use Rattle.session_grammar.specs.declared.logs.LogEntry.TheVariants.{Asked, Drew
 use Rattle.run_record.specs.Legal.{AreServed}
 use Rattle.run_record.specs.Openings.{history_of, log_of, openings}
 use Rattle.run_record.specs.declared.records.RunRecord.{RunRecord}
-use Rattle.partition_laws.specs.Keeping.{Keeps}
-use Rattle.partition_laws.specs.Moves.{by}
-use Rattle.partition_laws.proofs.OpenerLaws.{last-rises, opener-others}
-use Rattle.partition_laws.proofs.Openers.{seat-set}
-use Rattle.partition_laws.proofs.Stepped.{IsNew, answer_to, replied-new}
-use Rattle.partition_laws.proofs.Steps.{Keeps-answered, Keeps-step}
 use Rattle.state_facts.proofs.Openings.{opened-fresh}
 use Rattle.record_laws.specs.SoFar.{LegalSoFar, way_of}
 use Rattle.record_laws.proofs.FitsSoFar.{IsFresh, fresh_from, zip_at}
 use Rattle.record_laws.specs.Suiting.{PlansSuit}
 use Rattle.record_laws.proofs.Joined.{sends_fit-so_far}
-use Rattle.record_laws.proofs.Lists.{all_at, all_joined, all_through, all_weaker}
 use Rattle.record_laws.proofs.Served.{served_all}
 use Rattle.record_laws.proofs.Sessions.{by_opener}
 use Rattle.driver_laws.specs.Scheduling.{is_old, posted_of}
@@ -40,48 +31,12 @@ use Rattle.driver_laws.specs.Moves.{MayAnswer, asked_so_far}
 use Rattle.session_grammar.specs.UnderWay.{AreAbove, IsAbove, Sending, Awaiting, Drawing, UnderWay, unanswered, IsOpen}
 use Rattle.driver_laws.proofs.Openings.{open_for, the_open}
 use Rattle.driver_laws.proofs.Seats.{contains_filter}
-use Rattle.sql_base.proofs.ListFacts.{all_at as found_of}
-
--- the reply of a new request is kept
-told_kept : (p : State) (opener sync : ℕ) (request : Request) (reply : PartitionReply) → Keeps p → Lies 1 8 opener → (step p opener sync request).reply ≡ Some reply → (opener_of (step p opener sync request).state opener).kept ≡ Some reply
-told_kept p opener sync request reply k lies told =
-    let new : IsNew p opener sync request reply = replied-new p opener sync request reply told in
-    let a = answer_to p opener request in
-    let eight = (Keeps-answered p (by opener request) request.ask lies k).openers in
-    ap (λ (q : State). (opener_of q opener).kept) new.state
-    ∙ ap (λ (o : Opener). o.kept) (seat-set a.state.openers opener (record (opener_of a.state opener) { last = sync; starved = false; kept = Some reply }) lies eight)
+use Rattle.sql_base.proofs.ListFacts.{all-weaker, all_at as found_of, all_in, all_joined, all_through}
+use Rattle.partition_laws.proofs.LastEntries.{of_last, fresh_at}
 
 -- it is that of an entry of the history, or what was kept before
 abbrev IsOfLast : ℕ → List Entry → Opener → Opener → Type 0
 IsOfLast n history before now = ((now.last ≡ before.last) × (now.kept ≡ before.kept)) ⊎ ((e : Entry) × Contains history e × (e.opener ≡ n) × (now.last ≡ e.sync) × (now.kept ≡ Some e.reply))
-
-of_last : (p : State) (history : List Entry) (n : ℕ) → Keeps p → IsLegal p history → Lies 1 8 n → IsOfLast n history (opener_of p n) (opener_of (replay p history) n)
-of_last p [] n k legal lies = inl (refl, refl)
-of_last p (e ∷ es) n k legal lies =
-    by_rest (opener_of (replay q es) n) (of_last q es n (Keeps-step p e.opener e.sync e.request legal.0 k) legal.2 lies)
-  where
-    q : State
-    q = (step p e.opener e.sync e.request).state
-
-    first : (now : Opener) → (now.last ≡ (opener_of q n).last) × (now.kept ≡ (opener_of q n).kept) → (n ≡ e.opener) ⊎ (n ≢ e.opener) → IsOfLast n (e ∷ es) (opener_of p n) now
-    first now same (inl own) =
-        let r = last-rises p e.opener e.sync e.request e.reply k legal.0 legal.1 in
-        let kept = told_kept p e.opener e.sync e.request e.reply k legal.0 legal.1 in
-        let last_is : (opener_of q n).last ≡ e.sync = subst (λ m. (opener_of q m).last ≡ e.sync) (sym own) r.1 in
-        let kept_is : (opener_of q n).kept ≡ Some e.reply = subst (λ m. (opener_of q m).kept ≡ Some e.reply) (sym own) kept in
-        inr (e, (zero, omega arith, refl), sym own, same.0 ∙ last_is, same.1 ∙ kept_is)
-    first now same (inr other) =
-        let stays = opener-others p e.opener e.sync e.request n legal.0 lies other in
-        inl (same.0 ∙ ap (λ (o : Opener). o.last) stays, same.1 ∙ ap (λ (o : Opener). o.kept) stays)
-
-    by_rest : (now : Opener) → IsOfLast n es (opener_of q n) now → IsOfLast n (e ∷ es) (opener_of p n) now
-    by_rest now (inl same) = first now same (cases_eq n e.opener)
-    by_rest now (inr one) = inr (one.0, (suc one.1.0, omega (arith, one.1.1), one.1.2), one.2, one.3, one.4)
-
-fresh_at : (m k : ℕ) → unwrap_or (slice_get (replicate m new_opener) k) new_opener ≡ new_opener
-fresh_at zero k = refl
-fresh_at (suc m) zero = refl
-fresh_at (suc m) (suc k) = fresh_at m k
 
 module _ (script : Script) (kept : RunRecord) (ways : List UnderWay) (legal : LegalSoFar script kept ways) (session : ℕ) (lies : Lies 1 (length script.sessions) session)
     (part : ℕ) (within : part < length kept.histories) (p : State) (opens : slice_get (openings script) part ≡ Some p) where
@@ -129,8 +84,8 @@ module _ (script : Script) (kept : RunRecord) (ways : List UnderWay) (legal : Le
       up_to (Drawing name floor) above none = absurd none
       up_to (Awaiting sends) above is_in =
           let log = log_of kept session in
-          let below = all_at (λ (x : Sending). AllByRecursion (λ e. IsAbove e x) log) s sends is_in above.0 in
-          let front = all_through (is_for s.part) (IsUpTo s.sync) log (all_weaker (λ e. IsAbove e s) (λ e. is_for s.part e ≡ true → IsUpTo s.sync e) of_one log below) in
+          let below = all_in (λ (x : Sending). AllByRecursion (λ e. IsAbove e x) log) s sends is_in above.0 in
+          let front = all_through (is_for s.part) (IsUpTo s.sync) log (all-weaker (λ e. IsAbove e s) (λ e. is_for s.part e ≡ true → IsUpTo s.sync e) of_one log below) in
           let alone = the_open log (Awaiting sends) s above is_in in
           subst (AllByRecursion (IsUpTo s.sync)) (sym (filter-append (is_for s.part) log (unanswered (Awaiting sends))))
           (all_joined (IsUpTo s.sync) (filter (is_for s.part) log) (open_for s.part (Awaiting sends)) front (subst (AllByRecursion (IsUpTo s.sync)) (sym alone) (omega arith, tt)))
@@ -149,7 +104,7 @@ module _ (script : Script) (kept : RunRecord) (ways : List UnderWay) (legal : Le
       of (inl none) = omega (arith, none.0)
       of (inr one) =
           let mine = contains_filter (by_opener session) (history_of kept part) one.0 (eq-eqb one.0.opener session one.2) one.1 in
-          let low = all_at (λ (e : Entry). e.sync ≤ s.sync) one.0 (filter (by_opener session) (history_of kept part)) mine entries in
+          let low = all_in (λ (e : Entry). e.sync ≤ s.sync) one.0 (filter (by_opener session) (history_of kept part)) mine entries in
           omega (arith, low, one.3)
 
   -- a message with a sync up to the last one was served before

@@ -5,12 +5,10 @@ use Rattle.std.proofs.lemmas.List.{append-nil}
 use Rattle.std.proofs.lemmas.List.Elements.{filter-append}
 use Rattle.std.specs.Prelude.{◌⊎◌, filter, slice_get, Contains}
 use Rattle.std.specs.List.{AllByRecursion}
-use Rattle.sql_base.specs.Scripts.{Lies}
 use Rattle.sql_base.specs.declared.scripts.Script.{Script}
 use Rattle.dp_messages.specs.declared.requests.Request.{Request}
-use Rattle.partition_state.specs.History.{IsLegal, replay}
+use Rattle.partition_state.specs.History.{IsLegal}
 use Rattle.partition_state.specs.State.{State}
-use Rattle.partition_state.specs.Step.{step}
 use Rattle.partition_state.specs.declared.entries.Entry.{Entry}
 use Rattle.session_grammar.specs.Follows.{CountSyncs}
 use Rattle.session_grammar.specs.Rows.{is_for}
@@ -24,11 +22,11 @@ use Rattle.partition_laws.proofs.OpenerLaws.{syncs_rise}
 use Rattle.session_grammar.specs.UnderWay.{AreAbove, BeginsWith, IsAbove, IsWith, Merges, Sending, Awaiting, Drawing, UnderWay, unanswered, Asks}
 use Rattle.record_laws.proofs.Completing.{filled_merges, merged_first, open_entry}
 use Rattle.record_laws.proofs.Driving.{served_join}
-use Rattle.record_laws.proofs.Lists.{all_at, all_filter, all_joined, all_through, all_weaker}
 use Rattle.record_laws.proofs.Served.{served_all, served_split}
 use Rattle.driver_laws.specs.Gathering.{Climbs, IsOver}
 use Rattle.driver_laws.proofs.Openings.{none_or_one, open_for, the_open}
-use Rattle.sql_base.proofs.ListFacts.{all_places, slice_get-last}
+use Rattle.sql_base.proofs.ListFacts.{all-filter, all-weaker, all_in, all_joined, all_places, all_through, slice_get-last}
+use Rattle.session_grammar.proofs.LogLists.{syncs_front}
 
 -- what was asked has this sync or a later one
 abbrev pub NotBelow : ℕ → LogEntry → Type 0
@@ -71,7 +69,7 @@ module _ (part sync : ℕ) (request : Request) (losses : ℕ) (answer : Answer) 
           let early = back_earlier front (f ∷ back) (subst (AllByRecursion (IsEarlier sync)) is_es earlier) in
           absurd (omega (arith, l.0, early.0))
 
-over_weaker : (n m : ℕ) → m ≤ n → (e : LogEntry) → IsOver n e → IsOver m e
+pub over_weaker : (n m : ℕ) → m ≤ n → (e : LogEntry) → IsOver n e → IsOver m e
 over_weaker n m le (Asked p s q l w) h = omega (arith, le, h)
 over_weaker n m le (Drew x f w) h = tt
 
@@ -90,18 +88,13 @@ not_below_weaker n m le (Drew x f w) h = tt
 -- the syncs of what was asked rise
 counts_late : (n : ℕ) (log : List LogEntry) → CountSyncs n log → AllByRecursion (NotBelow n) log
 counts_late n [] h = tt
-counts_late n (Asked p s q l w ∷ log) h = (omega (arith, h.0), all_weaker (NotBelow (n + 1)) (NotBelow n) (not_below_weaker (n + 1) n (omega arith)) log (counts_late (n + 1) log h.1))
+counts_late n (Asked p s q l w ∷ log) h = (omega (arith, h.0), all-weaker (NotBelow (n + 1)) (NotBelow n) (not_below_weaker (n + 1) n (omega arith)) log (counts_late (n + 1) log h.1))
 counts_late n (Drew x f w ∷ log) h = (tt, counts_late n log h)
 
 counts_rise : (n : ℕ) (log : List LogEntry) → CountSyncs n log → Climbs log
 counts_rise n [] h = tt
-counts_rise n (Asked p s q l w ∷ log) h = (all_weaker (NotBelow (n + 1)) (IsOver s) (not_below_over (n + 1) s (omega (arith, h.0))) log (counts_late (n + 1) log h.1), counts_rise (n + 1) log h.1)
+counts_rise n (Asked p s q l w ∷ log) h = (all-weaker (NotBelow (n + 1)) (IsOver s) (not_below_over (n + 1) s (omega (arith, h.0))) log (counts_late (n + 1) log h.1), counts_rise (n + 1) log h.1)
 counts_rise n (Drew x f w ∷ log) h = counts_rise n log h
-
-syncs_front : (n : ℕ) (xs ys : List LogEntry) → CountSyncs n (xs ++ ys) → CountSyncs n xs
-syncs_front n [] ys h = tt
-syncs_front n (Asked p s q l w ∷ xs) ys h = (h.0, syncs_front (n + 1) xs ys h.1)
-syncs_front n (Drew x f w ∷ xs) ys h = syncs_front n xs ys h
 
 rises_front : (xs ys : List LogEntry) → Climbs (xs ++ ys) → Climbs xs
 rises_front [] ys h = tt
@@ -136,7 +129,7 @@ rises_kept q x xs false e with_it rest = rw e rest
 
 rises_filter : (q : LogEntry → Bool) (xs : List LogEntry) → Climbs xs → Climbs (filter q xs)
 rises_filter q [] h = tt
-rises_filter q (Asked p s r l w ∷ xs) h = let rest = rises_filter q xs h.1 in rises_kept q (Asked p s r l w) xs (q (Asked p s r l w)) refl (all_filter q (IsOver s) xs h.0, rest) rest
+rises_filter q (Asked p s r l w ∷ xs) h = let rest = rises_filter q xs h.1 in rises_kept q (Asked p s r l w) xs (q (Asked p s r l w)) refl (all-filter (IsOver s) q xs h.0, rest) rest
 rises_filter q (Drew x f w ∷ xs) h = let rest = rises_filter q xs h in rises_kept q (Drew x f w) xs (q (Drew x f w)) refl rest rest
 
 -- each request was asked before this sync
@@ -172,8 +165,8 @@ asked_rises script session log way part h = subst Climbs (sym (filter-append (is
         by_open (inr one) =
             let s = one.0 in
             let alone : open_for part (Awaiting sends) ≡ open_entry s ∷ [] = subst (λ n. open_for n (Awaiting sends) ≡ open_entry s ∷ []) one.2 (the_open log (Awaiting sends) s above one.1) in
-            let below = all_at (λ (x : Sending). AllByRecursion (λ e. IsAbove e x) log) s sends one.1 above.0 in
-            let low = all_through (is_for part) (IsUpTo s.sync) log (all_weaker (λ e. IsAbove e s) (λ e. is_for part e ≡ true → IsUpTo s.sync e) (λ e a t. up_to s e one.2 a t) log below) in
+            let below = all_in (λ (x : Sending). AllByRecursion (λ e. IsAbove e x) log) s sends one.1 above.0 in
+            let low = all_through (is_for part) (IsUpTo s.sync) log (all-weaker (λ e. IsAbove e s) (λ e. is_for part e ≡ true → IsUpTo s.sync e) (λ e a t. up_to s e one.2 a t) log below) in
             subst (λ (es : List LogEntry). Climbs (filter (is_for part) log ++ es)) (sym alone) (rises_more (filter (is_for part) log) s here low)
 
 -- the place of a request among what was asked
@@ -192,12 +185,7 @@ module _ (part sync : ℕ) (request : Request) (losses : ℕ) (answer : Answer) 
   serves_new zs es e is_in rises earlier is h =
       let r = place_of zs is_in.0 is_in.1 is_in.2 rises in
       subst (λ (xs : List LogEntry). AreServed xs (es ++ e ∷ [])) (sym r.2)
-      (served_new part sync request losses answer r.0 r.1 es e (all_weaker (IsOver sync) (NotBelow sync) (over_not_below sync) r.1 r.3) earlier is (subst (λ (xs : List LogEntry). AreServed xs es) r.2 h))
-
--- a history that goes on by one entry
-pub legal_more : (p : State) (history : List Entry) (e : Entry) → IsLegal p history → Lies 1 8 e.opener → (step (replay p history) e.opener e.sync e.request).reply ≡ Some e.reply → IsLegal p (history ++ e ∷ [])
-legal_more p [] e legal lies told = (lies, told, tt)
-legal_more p (f ∷ history) e legal lies told = (legal.0, legal.1, legal_more (step p f.opener f.sync f.request).state history e legal.2 lies told)
+      (served_new part sync request losses answer r.0 r.1 es e (all-weaker (IsOver sync) (NotBelow sync) (over_not_below sync) r.1 r.3) earlier is (subst (λ (xs : List LogEntry). AreServed xs es) r.2 h))
 
 at_front : {X : Type 0} (xs ys : List X) (i : ℕ) (x : X) → slice_get xs i ≡ Some x → (i < length xs) × (slice_get (xs ++ ys) i ≡ Some x)
 at_front [] ys i x is = absurd (cc is)

@@ -10,12 +10,7 @@ use Rattle.commit_journal.specs.declared.Drawn.{Drawn}
 use Rattle.run_record.specs.Legal.{StampsOfLogRise}
 use Rattle.commit_journal.specs.Journal.{StampsRise}
 use Rattle.commit_journal.specs.Journal.{last_stamp}
-use Rattle.record_laws.proofs.Lists.{all_at}
-
--- the stamps still rise
-pub rise_more : (last : ℕ) (journal : List Drawn) (d : Drawn) → StampsRise last journal → d.stamp ≡ max (last_stamp last journal) d.floor + 1 → StampsRise last (journal ++ d ∷ [])
-rise_more last [] d h is = (is, tt)
-rise_more last (x ∷ journal) d h is = (h.0, rise_more x.stamp journal d h.1 is)
+use Rattle.sql_base.proofs.ListFacts.{all_in}
 
 -- none of them is above the last
 up_to_last : (last : ℕ) (journal : List Drawn) → StampsRise last journal → (last ≤ last_stamp last journal) × AllByRecursion (λ d. d.stamp ≤ last_stamp last journal) journal
@@ -23,7 +18,7 @@ up_to_last last [] h = (omega arith, tt)
 up_to_last last (x ∷ journal) h = let rest = up_to_last x.stamp journal h.1 in (omega (arith, rest.0, h.0), (rest.0, rest.1))
 
 pub below_new : (journal : List Drawn) (d : Drawn) → StampsRise 0 journal → d.stamp ≡ max (last_stamp 0 journal) d.floor + 1 → (x : Drawn) → Contains journal x → x.stamp < d.stamp
-below_new journal d h is x is_in = let low = all_at (λ (y : Drawn). y.stamp ≤ last_stamp 0 journal) x journal is_in (up_to_last 0 journal h).1 in omega (arith, low, is)
+below_new journal d h is x is_in = let low = all_in (λ (y : Drawn). y.stamp ≤ last_stamp 0 journal) x journal is_in (up_to_last 0 journal h).1 in omega (arith, low, is)
 
 -- the names still differ
 none_named : (t : TxnName) (journal : List Drawn) → find (λ d. same_txn d.name t) journal ≡ None → AllByRecursion (λ d. same_txn d.name t ≡ false) journal

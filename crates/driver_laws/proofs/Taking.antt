@@ -16,8 +16,8 @@ use Rattle.run_record.specs.Legal.{AreServed}
 use Rattle.session_grammar.specs.UnderWay.{AreAbove, IsAbove, Sending, Awaiting, UnderWay, unanswered, IsOpen, IsPutIn}
 use Rattle.record_laws.proofs.Completing.{open_entry}
 use Rattle.record_laws.proofs.Driving.{NotOf, taken_now}
-use Rattle.record_laws.proofs.Lists.{all_at, all_through, all_weaker}
 use Rattle.driver_laws.proofs.Openings.{none_or_one, open_for, still_served, the_open}
+use Rattle.sql_base.proofs.ListFacts.{all-weaker, all_in, all_through}
 
 -- the entries for the partition, where one is put in
 pub put_here : (part : ℕ) (entry : LogEntry) (log after : List LogEntry) → is_for part entry ≡ true → IsPutIn part entry log after → filter (is_for part) after ≡ filter (is_for part) log ++ entry ∷ []
@@ -55,7 +55,7 @@ answered_last part sync request xs es losses (Stamp stamp) h older a = absurd a
 -- what was asked of the partition before has another sync
 older_not : (part sync : ℕ) (s : Sending) (log : List LogEntry) → s.part ≡ part → s.sync ≡ sync → AllByRecursion (λ e. IsAbove e s) log → AllByRecursion (NotOf sync) (filter (is_for part) log)
 older_not part sync s log here is above =
-    all_through (is_for part) (NotOf sync) log (all_weaker (λ e. IsAbove e s) (λ e. is_for part e ≡ true → NotOf sync e) below log above)
+    all_through (is_for part) (NotOf sync) log (all-weaker (λ e. IsAbove e s) (λ e. is_for part e ≡ true → NotOf sync e) below log above)
   where
     below : (e : LogEntry) → IsAbove e s → is_for part e ≡ true → NotOf sync e
     below (Asked p x q l w) a for_it = λ same. let lt = a (eqb-true p part for_it ∙ sym here) in omega (arith, lt, same, is)
@@ -71,7 +71,7 @@ module _ (log after : List LogEntry) (sends : List Sending) (way : UnderWay) (s 
       let q = is_for s.part in
       let was : filter q (log ++ unanswered (Awaiting sends)) ≡ filter q log ++ open_entry s ∷ [] =
       filter-append q log (unanswered (Awaiting sends)) ∙ ap (λ (xs : List LogEntry). filter q log ++ xs) (the_open log (Awaiting sends) s above is_in) in
-      let older = older_not s.part s.sync s log refl refl (all_at (λ (x : Sending). AllByRecursion (λ e. IsAbove e x) log) s sends is_in above.0) in
+      let older = older_not s.part s.sync s log refl refl (all_in (λ (x : Sending). AllByRecursion (λ e. IsAbove e x) log) s sends is_in above.0) in
       let served = answered_last s.part s.sync s.request (filter q log) es losses answer (subst (λ (xs : List LogEntry). AreServed xs es) was h) older a in
       let put_is = put_here s.part (Asked s.part s.sync s.request losses answer) log after (eq-eqb s.part s.part refl) put in
       let now = still_served s.part (filter q after) way es (subst (λ (xs : List LogEntry). AreServed xs es) (sym put_is) served) in

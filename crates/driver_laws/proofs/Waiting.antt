@@ -1,51 +1,25 @@
 -- A session whose message was served finds its reply.
-use Rattle.std.proofs.Common.{◌≡◌, ◌≤◌, ◌<◌, ℕ, zero, suc, List, [], ◌∷◌, ◌++◌, length, map, Some, Bool, true, false, cond, refl, ap, sym, subst, arith}
+use Rattle.std.proofs.Common.{◌≡◌, ◌≤◌, ◌<◌, ℕ, zero, suc, List, [], ◌∷◌, ◌++◌, length, map, Some, Bool, true, false, cond, refl, sym, subst, arith}
 use Rattle.std.proofs.lemmas.Bool.{and_parts, eq-eqb, eqb-true, false≢true}
 use Rattle.std.proofs.lemmas.Bool.Decides.{nat_tests}
-use Rattle.std.specs.Prelude.{fold, nat_le, slice_get, take, ◌&&◌, ◌||◌, ◌==◌, Contains}
-use Rattle.std.specs.List.{AllByRecursion, list_any}
+use Rattle.std.specs.Prelude.{fold, nat_le, slice_get, ◌&&◌, ◌||◌, ◌==◌, Contains}
+use Rattle.std.specs.List.{list_any}
 use Rattle.sql_base.specs.Scripts.{Lies}
 use Rattle.sql_base.specs.declared.scripts.Script.{Script}
-use Rattle.partition_state.specs.History.{IsLegal, before, replay}
+use Rattle.partition_state.specs.History.{replay}
 use Rattle.partition_state.specs.State.{State, opener_of}
-use Rattle.partition_state.specs.Step.{step}
 use Rattle.partition_state.specs.declared.entries.Entry.{Entry}
 use Rattle.run_record.specs.Openings.{history_of, openings}
 use Rattle.run_record.specs.declared.records.Act.{Act}
 use Rattle.run_record.specs.declared.records.Act.TheVariants.{Send, Take, ByHand, Draw, Serve}
 use Rattle.run_record.specs.declared.records.RunRecord.{RunRecord}
-use Rattle.partition_laws.specs.Keeping.{Keeps}
-use Rattle.partition_laws.proofs.OpenerLaws.{last-between, last-rises}
-use Rattle.partition_laws.proofs.Steps.{Keeps-step}
 use Rattle.state_facts.proofs.Openings.{opened-fresh}
 use Rattle.record_laws.specs.SoFar.{LegalSoFar, way_of}
-use Rattle.record_laws.proofs.Lists.{all_at}
 use Rattle.session_grammar.specs.UnderWay.{Sending, UnderWay, IsOpen}
 use Rattle.driver_laws.specs.Scheduling.{Awaited, Posted, ScheduledSoFar, Step, is_old, is_serve_of, newly, posted_of, seen_more}
 use Rattle.driver_laws.proofs.Picking.{is_legal, never_passed}
-
--- no entry of an opener is later than its last sync
-take_none : {X : Type 0} (xs : List X) → take 0 xs ≡ []
-take_none [] = refl
-take_none (x ∷ xs) = refl
-
-take_all : {X : Type 0} (xs : List X) → take (length xs) xs ≡ xs
-take_all [] = refl
-take_all (x ∷ xs) = ap (λ (ys : List _). x ∷ ys) (take_all xs)
-
-up_to_last : (p : State) (history : List Entry) (n : ℕ) → Keeps p → IsLegal p history → Lies 1 8 n → AllByRecursion (λ (e : Entry). e.opener ≡ n → e.sync ≤ (opener_of (replay p history) n).last) history
-up_to_last p [] n k legal lies = tt
-up_to_last p (e ∷ es) n k legal lies = (first, up_to_last (step p e.opener e.sync e.request).state es n (Keeps-step p e.opener e.sync e.request legal.0 k) legal.2 lies)
-  where
-    first : e.opener ≡ n → e.sync ≤ (opener_of (replay (step p e.opener e.sync e.request).state es) n).last
-    first own =
-        let q = (step p e.opener e.sync e.request).state in
-        let here = last-rises p e.opener e.sync e.request e.reply k legal.0 legal.1 in
-        let now : (opener_of q n).last ≡ e.sync = subst (λ m. (opener_of q m).last ≡ e.sync) own here.1 in
-        let rise = (last-between q es 0 (length es) n (Keeps-step p e.opener e.sync e.request legal.0 k) legal.2 lies (omega arith)).0 in
-        let from : (opener_of (before q es 0) n).last ≡ (opener_of q n).last = ap (λ (h : List Entry). (opener_of (replay q h) n).last) (take_none es) in
-        let to : (opener_of (before q es (length es)) n).last ≡ (opener_of (replay q es) n).last = ap (λ (h : List Entry). (opener_of (replay q h) n).last) (take_all es) in
-        omega (arith, now, rise, from, to)
+use Rattle.sql_base.proofs.ListFacts.{all_in}
+use Rattle.partition_laws.proofs.LastEntries.{take_whole, up_to_last}
 
 -- what a partition has served as new, it has still
 module _ (part : ℕ) (m : Posted) where
@@ -144,6 +118,6 @@ reply_is_kept script kept ways legal live tails choices scheduled session lies s
     let few = legal.script_runs.some_sessions.1 in
     let legal_here = is_legal script kept ways legal session lies s.part within p opens in
     let up = up_to_last p (history_of kept s.part) session (opened-fresh script s.part p legal.script_runs opens).keeps legal_here (lies.0, omega (arith, lies.1, few)) in
-    let low = all_at (λ (f : Entry). f.opener ≡ session → f.sync ≤ (opener_of (replay p (history_of kept s.part)) session).last) e.0 (history_of kept s.part) e.1 up e.2 in
+    let low = all_in (λ (f : Entry). f.opener ≡ session → f.sync ≤ (opener_of (replay p (history_of kept s.part)) session).last) e.0 (history_of kept s.part) e.1 up e.2 in
     let high = never_passed script kept ways legal session lies s.part within p opens s refl is_open in
     omega (arith, low, high, e.3)

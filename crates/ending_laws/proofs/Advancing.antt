@@ -25,7 +25,6 @@ use Rattle.run_record.specs.Openings.{history_of, log_of, openings}
 use Rattle.run_record.specs.declared.records.RunRecord.{RunRecord}
 use Rattle.record_laws.specs.SoFar.{LegalSoFar, way_of}
 use Rattle.record_laws.proofs.FitsSoFar.{zip_at}
-use Rattle.record_laws.proofs.Lists.{all_at, all_joined, all_passed, all_through, all_weaker}
 use Rattle.record_laws.proofs.Served.{served_all}
 use Rattle.record_laws.proofs.Sessions.{by_opener}
 use Rattle.driver_laws.specs.Moves.{MayAnswer}
@@ -37,6 +36,7 @@ use Rattle.ending_laws.proofs.Counts.{few-above, fewer-above, not-all-above}
 use Rattle.ending_laws.proofs.Histories.{GoesOnward, kept-keys}
 use Rattle.ending_laws.proofs.Members.{all_contained}
 use Rattle.ending_laws.proofs.Redrives.{IsOnward}
+use Rattle.sql_base.proofs.ListFacts.{all-weaker, all_in, all_joined, all_passed, all_through}
 
 -- the request of this sync
 abbrev IsOfSync : Sending → LogEntry → Type 0
@@ -57,8 +57,8 @@ module _ (script : Script) (kept : RunRecord) (ways : List UnderWay) (legal : Le
     log-of_sync =
         let log = log_of kept session in
         let are : AreAbove log (Awaiting sends) = subst (AreAbove log) is (legal.logs_begin.each session lies).0 in
-        let below = all_at (λ (x : Sending). AllByRecursion (λ e. IsAbove e x) log) s sends is_in are.0 in
-        let front = all_through (is_for s.part) (IsOfSync s) log (all_weaker (λ e. IsAbove e s) (λ e. is_for s.part e ≡ true → IsOfSync s e) (before-it s) log below) in
+        let below = all_in (λ (x : Sending). AllByRecursion (λ e. IsAbove e x) log) s sends is_in are.0 in
+        let front = all_through (is_for s.part) (IsOfSync s) log (all-weaker (λ e. IsAbove e s) (λ e. is_for s.part e ≡ true → IsOfSync s e) (before-it s) log below) in
         let alone = the_open log (Awaiting sends) s are is_in in
         subst (AllByRecursion (IsOfSync s)) (sym (filter-append (is_for s.part) log (unanswered (Awaiting sends))))
         (all_joined (IsOfSync s) (filter (is_for s.part) log) (open_for s.part (Awaiting sends)) front (subst (AllByRecursion (IsOfSync s)) (sym alone) ((λ same. refl), tt)))
@@ -68,7 +68,7 @@ module _ (script : Script) (kept : RunRecord) (ways : List UnderWay) (legal : Le
     same-request e in_history opened sync =
         let served = subst (λ (w : UnderWay). AreServed (filter (is_for s.part) (log_of kept session ++ unanswered w)) (filter (by_opener session) (history_of kept s.part))) is (legal.entries_asked.served s.part session within lies) in
         let each = served_all (IsOfSync s) (AsksSo s) (λ p x q l w f of y same. y.1 ∙ of (sym y.0 ∙ same)) (filter (is_for s.part) (log_of kept session ++ unanswered (Awaiting sends))) (filter (by_opener session) (history_of kept s.part)) log-of_sync served in
-        all_at (λ (f : Entry). by_opener session f ≡ true → AsksSo s f) e (history_of kept s.part) in_history (all_passed (by_opener session) (AsksSo s) (history_of kept s.part) each) (eq-eqb e.opener session opened) sync
+        all_in (λ (f : Entry). by_opener session f ≡ true → AsksSo s f) e (history_of kept s.part) in_history (all_passed (by_opener session) (AsksSo s) (history_of kept s.part) each) (eq-eqb e.opener session opened) sync
 
     advances : (losses : ℕ) (answer : Answer) → MayAnswer kept session s losses answer → Advances (above_in script) (keys_count script) (Sends s.part s.sync s.request) answer
     advances losses PathFailed may = tt
@@ -78,7 +78,7 @@ module _ (script : Script) (kept : RunRecord) (ways : List UnderWay) (legal : Le
         onward : GoesOnward (Contains (keys_of_script script)) may.0
         onward =
             let found = zip_at IsLegal (openings script) kept.histories [] s.part legal.histories_replay within in
-            all_at (GoesOnward (Contains (keys_of_script script))) may.0 (history_of kept s.part) may.1
+            all_in (GoesOnward (Contains (keys_of_script script))) may.0 (history_of kept s.part) may.1
             (kept-keys (Contains (keys_of_script script)) script (all_contained (keys_of_script script)) kept ways legal s.part within found.0 found.1).1
 
         by_ask : (ask : Ask) (last : List ℕ) → Contains (keys_of_script script) last → IsOnward ask last → above_in script last < spare_of (above_in script) (keys_count script) ask

@@ -21,10 +21,10 @@ use Rattle.session_grammar.specs.declared.plans.Sent.{Sent}
 use Rattle.run_record.specs.Tiles.{sents_of}
 use Rattle.record_laws.proofs.Attempts.{IsOwn, attempts_counted}
 use Rattle.record_laws.proofs.Completing.{merged_first}
-use Rattle.record_laws.proofs.Lists.{all_back, all_front, all_joined}
 use Rattle.record_laws.proofs.Parts.{part-all, turns-all}
 use Rattle.record_laws.proofs.Suiting.{attempts_of}
 use Rattle.record_laws.proofs.Counting.{merged_second}
+use Rattle.sql_base.proofs.ListFacts.{all_joined, all_left, all_right}
 
 module _ (S : ℕ → Ask → Type 0) where
   abbrev pub IsSo : LogEntry → Type 0
@@ -44,13 +44,13 @@ module _ (S : ℕ → Ask → Type 0) where
   pub asked-so : (way : UnderWay) (log whole : List LogEntry) → IsWith way log whole → AllByRecursion IsSo whole → AllByRecursion IsSo (log ++ unanswered way)
   asked-so (Awaiting sends) log whole filled all =
       let parts = subst (AllByRecursion IsSo) filled.whole_is all in
-      let front = all_front IsSo filled.front filled.back parts in
-      let back = all_back IsSo filled.front filled.back parts in
+      let front = all_left IsSo filled.front filled.back parts in
+      let back = all_right IsSo filled.front filled.back parts in
       let tail = merged_first IsSo filled.tail filled.answered filled.back filled.merged back in
       let answered = merged_second IsSo filled.tail filled.answered filled.back filled.merged back in
       all_joined IsSo log (unanswered (Awaiting sends)) (subst (AllByRecursion IsSo) (sym filled.log_is) (all_joined IsSo filled.front filled.tail front tail)) (sends-so sends filled.answered filled.answers answered)
   asked-so (Drawing name floor) log whole drawn all =
-      all_joined IsSo log [] (all_front IsSo log (Drew name floor (Stamp drawn.0) ∷ []) (subst (AllByRecursion IsSo) drawn.1 all)) tt
+      all_joined IsSo log [] (all_left IsSo log (Drew name floor (Stamp drawn.0) ∷ []) (subst (AllByRecursion IsSo) drawn.1 all)) tt
 
   module _ (goes_on : (part subset : ℕ) (last : List ℕ) → S part (Continue subset last)) (prepares : (part : ℕ) → S part Prepare) (commits : (part stamp : ℕ) → S part (EndCommit stamp)) (undoes : (part : ℕ) → S part EndUndo) where
     asked-one : (part : ℕ) (request : Request) (answer : Answer) (e : LogEntry) → S part request.ask → IsAsked part request answer e → IsSo e

@@ -22,7 +22,7 @@ use Rattle.partition_state.specs.Step.{answered, step, with_granule}
 use Rattle.partition_laws.specs.Moves.{Move, Stays, Enters, Starts, Opens, Closes, Advances, Inserts, Locks, Prepares, Commits, Undoes, Fits, Moved, after, after_quantum, by, handled_by}
 use Rattle.partition_laws.proofs.CellMoves.{all-inserted, cell_key, keys-after}
 use Rattle.partition_laws.proofs.KeepingMoves.{handled_in}
-use Rattle.partition_laws.proofs.Lists.{all-filter_map}
+use Rattle.sql_base.proofs.ListSearches.{all-filter_map}
 use Rattle.partition_laws.proofs.Moving.{moved}
 use Rattle.partition_laws.proofs.Stepped.{stepped}
 use Rattle.sql_base.proofs.Truths.{some-same}

@@ -31,7 +31,6 @@ use Rattle.run_record.specs.Openings.{history_of, log_of, openings}
 use Rattle.run_record.specs.declared.records.RunRecord.{RunRecord}
 use Rattle.record_laws.specs.SoFar.{LegalSoFar, way_of}
 use Rattle.record_laws.proofs.FitsSoFar.{zip_at}
-use Rattle.record_laws.proofs.Lists.{all_back, all_both, all_front, all_passed, all_slice, all_through, all_weaker}
 use Rattle.record_laws.proofs.Served.{served_all}
 use Rattle.record_laws.proofs.Sessions.{by_opener}
 use Rattle.plans_laws.proofs.SpelledHistories.{opening-spelled}
@@ -42,6 +41,7 @@ use Rattle.ending_laws.proofs.Inserts.{GoodHere, plan-good}
 use Rattle.ending_laws.proofs.Members.{all_parts, all_swapped}
 use Rattle.ending_laws.proofs.Opened.{opened-keys}
 use Rattle.ending_laws.proofs.Redrives.{IsOnward, redrive-onward}
+use Rattle.sql_base.proofs.ListFacts.{all-weaker, all_left, all_of_both, all_passed, all_right, all_slice, all_through}
 
 module _ (P : List ℕ → Type 0) where
   -- where it was answered with a redrive, its key is one of the kind, behind that of its Continue
@@ -65,19 +65,19 @@ module _ (P : List ℕ → Type 0) where
     IsGoodStatement s = IsStatement script.tables s × AllByRecursion P (inserted_keys script.tables s)
 
     loads : AllByRecursion (λ load. AllByRecursion P (loaded_keys script.tables load)) script.loads
-    loads = all_parts P (loaded_keys script.tables) script.loads (all_front P (flat_map (loaded_keys script.tables) script.loads) (flat_map (keys_of_works script.tables) script.sessions) all)
+    loads = all_parts P (loaded_keys script.tables) script.loads (all_left P (flat_map (loaded_keys script.tables) script.loads) (flat_map (keys_of_works script.tables) script.sessions) all)
 
     inserts : AllByRecursion (λ (works : List Work). AllByRecursion P (keys_of_works script.tables works)) script.sessions
-    inserts = all_parts P (keys_of_works script.tables) script.sessions (all_back P (flat_map (loaded_keys script.tables) script.loads) (flat_map (keys_of_works script.tables) script.sessions) all)
+    inserts = all_parts P (keys_of_works script.tables) script.sessions (all_right P (flat_map (loaded_keys script.tables) script.loads) (flat_map (keys_of_works script.tables) script.sessions) all)
 
     work-good : (work : Work) → AllByRecursion (IsStatement script.tables) work.statements → AllByRecursion P (flat_map (inserted_keys script.tables) work.statements) → AllByRecursion IsGoodStatement work.statements
     work-good work is keys =
-        all_both (IsStatement script.tables) (λ s. AllByRecursion P (inserted_keys script.tables s)) IsGoodStatement (λ s a b. (a, b)) work.statements is (all_parts P (inserted_keys script.tables) work.statements keys)
+        all_of_both (IsStatement script.tables) (λ s. AllByRecursion P (inserted_keys script.tables s)) IsGoodStatement (λ s a b. (a, b)) work.statements is (all_parts P (inserted_keys script.tables) work.statements keys)
 
     works-good : (works : List Work) → AllByRecursion (λ (w : Work). AllByRecursion (IsStatement script.tables) w.statements) works → AllByRecursion P (keys_of_works script.tables works)
         → AllByRecursion (λ (w : Work). AllByRecursion IsGoodStatement w.statements) works
     works-good works is keys =
-        all_both (λ (w : Work). AllByRecursion (IsStatement script.tables) w.statements) (λ (w : Work). AllByRecursion P (flat_map (inserted_keys script.tables) w.statements))
+        all_of_both (λ (w : Work). AllByRecursion (IsStatement script.tables) w.statements) (λ (w : Work). AllByRecursion P (flat_map (inserted_keys script.tables) w.statements))
         (λ (w : Work). AllByRecursion IsGoodStatement w.statements) work-good works is (all_parts P (λ (w : Work). flat_map (inserted_keys script.tables) w.statements) works keys)
 
     module _ (kept : RunRecord) (ways : List UnderWay) (legal : LegalSoFar script kept ways) (part : ℕ) (within : part < length kept.histories) (p : State) (opens : slice_get (openings script) part ≡ Some p) where
@@ -88,14 +88,14 @@ module _ (P : List ℕ → Type 0) where
         session-good : AllByRecursion (λ (w : Work). AllByRecursion IsGoodStatement w.statements) (works_of script session)
         session-good =
             all_slice (λ (works : List Work). AllByRecursion (λ (w : Work). AllByRecursion IsGoodStatement w.statements) works) [] tt script.sessions (session - 1)
-            (all_both (λ (works : List Work). AllByRecursion (λ (w : Work). AllByRecursion (IsStatement script.tables) w.statements) works) (λ (works : List Work). AllByRecursion P (keys_of_works script.tables works))
+            (all_of_both (λ (works : List Work). AllByRecursion (λ (w : Work). AllByRecursion (IsStatement script.tables) w.statements) works) (λ (works : List Work). AllByRecursion P (keys_of_works script.tables works))
             (λ (works : List Work). AllByRecursion (λ (w : Work). AllByRecursion IsGoodStatement w.statements) works) works-good script.sessions legal.script_runs.statements inserts)
 
         plans-good : AllByRecursion (λ (w : Work). AllByRecursion (PlanIsSo S (asker script session)) w.statements) (works_of script session)
         plans-good =
-            all_weaker (λ (w : Work). AllByRecursion IsGoodStatement w.statements) (λ (w : Work). AllByRecursion (PlanIsSo S (asker script session)) w.statements)
+            all-weaker (λ (w : Work). AllByRecursion IsGoodStatement w.statements) (λ (w : Work). AllByRecursion (PlanIsSo S (asker script session)) w.statements)
             (λ w good.
-            all_weaker IsGoodStatement (PlanIsSo S (asker script session)) (λ s g. plan-good P script session part p opens s g.0 g.1) w.statements good) (works_of script session) session-good
+            all-weaker IsGoodStatement (PlanIsSo S (asker script session)) (λ s g. plan-good P script session part p opens s g.0 g.1) w.statements good) (works_of script session) session-good
 
         asked-good : AllByRecursion (IsSo S) (log_of kept session ++ unanswered (way_of ways session))
         asked-good =
@@ -103,7 +103,7 @@ module _ (P : List ℕ → Type 0) where
             let whole = begins.0 in
             let reads = begins.3.1 in
             let so = log-so S (λ q subset last here. tt) (λ q here. tt) (λ q stamp here. tt) (λ q here. tt) (asker script session) (works_of script session) (whole ++ begins.1) begins.3.0 plans-good reads in
-            asked-so S (way_of ways session) (log_of kept session) whole begins.2 (all_front (IsSo S) whole begins.1 so)
+            asked-so S (way_of ways session) (log_of kept session) whole begins.2 (all_left (IsSo S) whole begins.1 so)
 
         abbrev IsGoodEntry : LogEntry → Type 0
         IsGoodEntry (Asked q sync request losses answer) = IsGood P p.table request.ask
@@ -116,9 +116,9 @@ module _ (P : List ℕ → Type 0) where
         own-good : AllByRecursion (λ (e : Entry). e.opener ≡ session → IsGood P p.table e.request.ask) (history_of kept part)
         own-good =
             let log = log_of kept session ++ unanswered (way_of ways session) in
-            let of_part = all_through (is_for part) IsGoodEntry log (all_weaker (IsSo S) (λ e. is_for part e ≡ true → IsGoodEntry e) good-here log asked-good) in
+            let of_part = all_through (is_for part) IsGoodEntry log (all-weaker (IsSo S) (λ e. is_for part e ≡ true → IsGoodEntry e) good-here log asked-good) in
             let passed = served_all IsGoodEntry (λ (e : Entry). IsGood P p.table e.request.ask) of_served (filter (is_for part) log) (filter (by_opener session) (history_of kept part)) of_part (legal.entries_asked.served part session within lies) in
-            all_weaker (λ (e : Entry). by_opener session e ≡ true → IsGood P p.table e.request.ask) (λ (e : Entry). e.opener ≡ session → IsGood P p.table e.request.ask) (λ e f same. f (eq-eqb e.opener session same)) (history_of kept part)
+            all-weaker (λ (e : Entry). by_opener session e ≡ true → IsGood P p.table e.request.ask) (λ (e : Entry). e.opener ≡ session → IsGood P p.table e.request.ask) (λ e f same. f (eq-eqb e.opener session same)) (history_of kept part)
             (all_passed (by_opener session) (λ (e : Entry). IsGood P p.table e.request.ask) (history_of kept part) passed)
           where
             of_served : (q sync : ℕ) (request : Request) (losses : ℕ) (answer : Answer) (e : Entry) → IsGoodEntry (Asked q sync request losses answer) → IsServed e sync request → IsGood P p.table e.request.ask
@@ -127,7 +127,7 @@ module _ (P : List ℕ → Type 0) where
       all-good : AllByRecursion (λ (e : Entry). IsGood P p.table e.request.ask) (history_of kept part)
       all-good =
           let openers = all_slice (λ (history : List Entry). AllByRecursion (λ (e : Entry). Lies 1 (length script.sessions) e.opener) history) [] tt kept.histories part legal.entries_asked.openers in
-          all_both (λ (e : Entry). Lies 1 (length script.sessions) e.opener) (λ (e : Entry). (n : ℕ) → Lies 1 (length script.sessions) n → e.opener ≡ n → IsGood P p.table e.request.ask)
+          all_of_both (λ (e : Entry). Lies 1 (length script.sessions) e.opener) (λ (e : Entry). (n : ℕ) → Lies 1 (length script.sessions) n → e.opener ≡ n → IsGood P p.table e.request.ask)
           (λ (e : Entry). IsGood P p.table e.request.ask) (λ e lies good. good e.opener lies refl) (history_of kept part) openers
           (all_swapped (Lies 1 (length script.sessions)) (λ n (e : Entry). e.opener ≡ n → IsGood P p.table e.request.ask) (history_of kept part) own-good)
 

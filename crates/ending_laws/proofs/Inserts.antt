@@ -21,19 +21,19 @@ use Rattle.range_finder.specs.Range.{range}
 use Rattle.dp_messages.specs.declared.requests.Ask.{Ask}
 use Rattle.dp_messages.specs.declared.requests.Ask.TheVariants as ask
 use Rattle.partition_state.specs.State.{State}
-use Rattle.partition_laws.proofs.Lists.{all-each, all-map}
 use Rattle.session_grammar.specs.Follows.{asker}
 use Rattle.session_grammar.specs.Plans.{all_columns, begin_pieces, begins_in, filter_code, first_part, plan_of, plan_on, select_plan}
 use Rattle.session_grammar.specs.declared.plans.Plan.TheVariants.{Singles, Subsets}
 use Rattle.session_grammar.specs.declared.plans.Sent.{Sent}
 use Rattle.run_record.specs.Openings.{openings}
 use Rattle.run_record.specs.Tiles.{sents_of}
-use Rattle.ranges_laws.proofs.Parts.{part_within}
 use Rattle.plans_laws.proofs.Opened.{opens-here}
 use Rattle.serial_laws.proofs.Rooms.{packed-back}
 use Rattle.ending_laws.specs.Keys.{inserted_keys, keys_in}
 use Rattle.ending_laws.proofs.CellKeys.{IsGood}
 use Rattle.sql_base.proofs.Truths.{some-same}
+use Rattle.partition_map.proofs.PartsOfTables.{part_within}
+use Rattle.sql_base.proofs.ListFacts.{all-map, all_of}
 
 module _ (P : List ℕ → Type 0) (script : Script) (session part : ℕ) (p : State) (opens : slice_get (openings script) part ≡ Some p) where
   -- what is asked of this partition inserts only such keys
@@ -47,7 +47,7 @@ module _ (P : List ℕ → Type 0) (script : Script) (session part : ℕ) (p : S
       → AllByRecursion IsGoodSent (begin_pieces (asker script session) table place found begin)
   begins-good table place found begin good =
       let sent : Piece → Sent = λ piece. record { part = first_part (asker script session) place + piece.part; ask = begin (common_prefix found.low found.high) piece.range } in
-      all-map IsGoodSent sent (cut table found) (all-each (λ piece. IsGoodSent (sent piece)) (cut table found) (λ piece. λ here. good (common_prefix found.low found.high) piece.range))
+      all-map IsGoodSent sent (cut table found) (all_of (λ piece. IsGoodSent (sent piece)) (λ piece. λ here. good (common_prefix found.low found.high) piece.range) (cut table found))
 
   begins_in-good : (table : TableDef) (place : ℕ) (o : Option KeyRange) (begin : List ℕ → KeyRange → Ask) → ((granule : List ℕ) (k : KeyRange) → IsGood P p.table (begin granule k))
       → AllByRecursion IsGoodSent (begins_in (asker script session) table place o begin)

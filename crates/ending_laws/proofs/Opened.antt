@@ -12,12 +12,10 @@ use Rattle.key_sequenced.specs.declared.Cell.{Cell}
 use Rattle.one_thread.specs.One.{load_rows}
 use Rattle.partition_state.specs.State.{State, new_cell, opening}
 use Rattle.partition_map.specs.Map.{part_of}
-use Rattle.partition_laws.proofs.Lists.{all-each, all-map}
-use Rattle.record_laws.proofs.Lists.{all_filter, all_joined}
 use Rattle.run_record.specs.Openings.{openings, openings_from, rows_in_part}
 use Rattle.ending_laws.specs.Keys.{keys_in, loaded_keys}
 use Rattle.ending_laws.proofs.CellKeys.{KeysAre}
-use Rattle.sql_base.proofs.ListFacts.{all_at}
+use Rattle.sql_base.proofs.ListFacts.{all-filter, all-map, all_at, all_joined, all_of}
 
 module _ (P : List ℕ → Type 0) (script : Script) (all : AllByRecursion (λ (load : Load). AllByRecursion P (loaded_keys script.tables load)) script.loads) where
   abbrev HasRowKey : TableDef → List Value → Type 0
@@ -41,7 +39,7 @@ module _ (P : List ℕ → Type 0) (script : Script) (all : AllByRecursion (λ (
 
   opening-keys : (table : TableDef) (place : ℕ) (rows : List (List Value)) → AllByRecursion (HasRowKey table) rows → KeysAre P (opening table place script.limits (rows_in_part table place rows))
   opening-keys table place rows h =
-      all-map (λ (cell : Cell). P cell.key) (new_cell table) (rows_in_part table place rows) (all_filter (λ row. part_of table (key_of table row) == place) (HasRowKey table) rows h)
+      all-map (λ (cell : Cell). P cell.key) (new_cell table) (rows_in_part table place rows) (all-filter (HasRowKey table) (λ row. part_of table (key_of table row) == place) rows h)
 
   openings-keys : (tables : List TableDef) (a : ℕ) → ((i : ℕ) (table : TableDef) → slice_get tables i ≡ Some table → slice_get script.tables (a + i) ≡ Some table)
       → AllByRecursion (KeysAre P) (openings_from script.limits tables (map (load_rows script.loads) (range_with_len a (length tables))))
@@ -53,7 +51,7 @@ module _ (P : List ℕ → Type 0) (script : Script) (all : AllByRecursion (λ (
       let places = range_with_len 0 (length table.firsts + 1) in
       let rows = loads-keys a table here script.loads all in
       all_joined (KeysAre P) (map open_at places) (openings_from script.limits tables (map (load_rows script.loads) (range_with_len (a + 1) (length tables))))
-      (all-map (KeysAre P) open_at places (all-each (λ place. KeysAre P (open_at place)) places (λ place. opening-keys table place (load_rows script.loads a) rows)))
+      (all-map (KeysAre P) open_at places (all_of (λ place. KeysAre P (open_at place)) (λ place. opening-keys table place (load_rows script.loads a) rows) places))
       (openings-keys tables (a + 1) (λ i t e. let more : a + suc i ≡ a + 1 + i = omega arith in ap (slice_get script.tables) (sym more) ∙ at (suc i) t e))
 
   pub opened-keys : (part : ℕ) (p : State) → slice_get (openings script) part ≡ Some p → KeysAre P p

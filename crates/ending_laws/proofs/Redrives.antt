@@ -8,11 +8,9 @@ use Rattle.sql_base.specs.declared.key_ranges.Start.{Start}
 use Rattle.sql_base.specs.declared.lock_names.TxnName.{TxnName}
 use Rattle.key_sequenced.specs.declared.Cell.{Cell}
 use Rattle.subset_blocks.specs.declared.Block.{Block}
-use Rattle.quantum_core.specs.Quantum.{answer, last_key, refusal, stopped, visits}
+use Rattle.quantum_core.specs.Quantum.{answer, last_key, stopped, visits}
 use Rattle.quantum_core.specs.Verdicts.{Judged, candidates, is_candidate, is_hidden, judged, verdict}
 use Rattle.quantum_core.specs.declared.replies.QuantumReply.TheVariants as answers
-use Rattle.quantum_core.specs.declared.verdicts.Verdict.{Verdict}
-use Rattle.quantum_core.specs.declared.verdicts.Verdict.TheVariants.{Blocked, Faulty, PassedOver, Selected}
 use Rattle.quantum_core.specs.declared.works.SetWork.{SetWork}
 use Rattle.dp_messages.specs.declared.replies.Reply.TheVariants as reply
 use Rattle.dp_messages.specs.declared.requests.Ask.{Ask}
@@ -24,20 +22,15 @@ use Rattle.partition_laws.specs.Keeping.{Keeps}
 use Rattle.partition_laws.specs.Moves.{by, handled_by}
 use Rattle.partition_laws.specs.Outcomes.{Begun, Found, Origin}
 use Rattle.partition_laws.proofs.BlocksOwn.{redriven}
-use Rattle.partition_laws.proofs.Lists.{all-map, all-passing}
+use Rattle.sql_base.proofs.ListSearches.{all-passing}
 use Rattle.ending_laws.proofs.CellKeys.{KeysAre}
-use Rattle.sql_base.proofs.ListFacts.{all-take}
+use Rattle.sql_base.proofs.ListFacts.{all-map, all-take}
+use Rattle.partition_laws.proofs.Singles.{refusal-no_redrive}
 
 -- the key is behind that after which the request goes on
 abbrev pub IsOnward : Ask → List ℕ → Type 0
 IsOnward (Continue subset kept) key = key_lt kept key ≡ true
 IsOnward other key = Unit {0}
-
-refuses : (key last : List ℕ) (v : Verdict) (cause : Cause) (rows : List (List ℕ)) (changed : ℕ) → refusal key v ≡ answers.Redrive last cause rows changed → ⊥
-refuses key last (Blocked lock) cause rows changed e = cc e
-refuses key last (Faulty fault) cause rows changed e = cc e
-refuses key last PassedOver cause rows changed e = cc e
-refuses key last (Selected effect) cause rows changed e = cc e
 
 module _ (P : List ℕ → Type 0) where
   module _ (p : State) (block : Block SetWork) (h : KeysAre P p) where
@@ -64,7 +57,7 @@ module _ (P : List ℕ → Type 0) where
       stopped-reached : (handled : List Judged) (next : Judged) (o : Option (List ℕ)) → AllByRecursion IsJudgedSo handled → last_key handled ≡ o
           → stopped p.limits handled next o ≡ answers.Redrive last cause rows changed → IsReached last
       stopped-reached handled next (Some key) all e told = let same : key ≡ last = cc told in subst IsReached same (last-reached handled key all e)
-      stopped-reached handled next None all e told = absurd (refuses next.key last next.verdict cause rows changed told)
+      stopped-reached handled next None all e told = absurd (refusal-no_redrive next.key next.verdict last cause rows changed told)
 
       answer-reached : (handled rest : List Judged) → AllByRecursion IsJudgedSo handled → answer p.limits handled rest ≡ answers.Redrive last cause rows changed → IsReached last
       answer-reached handled [] all told = absurd (cc told)

@@ -2,10 +2,10 @@
 use Rattle.std.proofs.Common.{◌≡◌, ◌<◌, ◌≤◌, ℕ, ◌+◌, zero, suc, List, [], ◌∷◌, ◌++◌, length, drop, get_or, map, All, Bool, true, false, Some, None, Option, refl, ap, sym, ◌∙◌, arith}
 use Rattle.std.specs.Prelude.{filter_map, option_map, replicate, slice_get, sum_by, unwrap_or, if◌then◌else◌}
 use Rattle.std.specs.List.{cons_option}
-use Rattle.std.proofs.lemmas.List.{append-nil, append_assoc, drop_more, drop_all, length-map}
+use Rattle.std.proofs.lemmas.List.{append-nil, append_assoc, drop_all, length-map}
 use Rattle.std.proofs.lemmas.List.Sums.{sum_by-cons}
-use Rattle.std.proofs.lemmas.Option.{get_or_from_slice_get, slice_get-get_or, slice_get-map, slice_get_within}
-use Rattle.sql_base.specs.Rows.{chosen, key_width, kinds, width}
+use Rattle.std.proofs.lemmas.Option.{slice_get-get_or, slice_get-map}
+use Rattle.sql_base.specs.Rows.{chosen, kinds, width}
 use Rattle.sql_base.specs.declared.key_ranges.KeyRange.{KeyRange}
 use Rattle.sql_base.specs.declared.tables.Column.{Column}
 use Rattle.sql_base.specs.declared.tables.ColumnKind.{ColumnKind}
@@ -13,7 +13,7 @@ use Rattle.sql_base.specs.declared.tables.TableDef.{TableDef}
 use Rattle.range_finder.specs.Range.{Bound, ColumnInterval, KeyColumn, filled, interval, key_columns, range_over, usable}
 use Rattle.key_ranges.specs.Spans.{behind, in_front, span_left, with_kind}
 use Rattle.key_ranges.specs.declared.spans.Span.{Span}
-use Rattle.sql_base.proofs.ListFacts.{none-there}
+use Rattle.sql_base.proofs.ListFacts.{none-there, drop-at}
 
 abbrev columns_at : List ColumnKind → List ℕ → List KeyColumn
 columns_at ks places = filter_map (λ c. option_map (λ kind. record { place = c; kind = kind }) (slice_get ks c)) places
@@ -60,10 +60,6 @@ module _ (table : TableDef) (within : All (λ c. c < length table.columns) table
   pub as_many : length (key_columns table) ≡ length table.key
   as_many = columns-length (kinds table) table.key kinds_within
 
-pub drop_at_place : (columns : List KeyColumn) (i : ℕ) (column : KeyColumn) → slice_get columns i ≡ Some column → drop i columns ≡ column ∷ drop (i + 1) columns
-drop_at_place columns i column at =
-    drop_more columns i column (slice_get_within columns i column at) ∙ ap (λ (c : KeyColumn). c ∷ drop (i + 1) columns) (get_or_from_slice_get columns i column column at)
-
 in_front-is : (bounds : List Bound) (column : KeyColumn) (columns : List KeyColumn) → range_over bounds (column ∷ columns) ≡ in_front (span_left bounds column.place column.kind) columns (range_over bounds columns)
 in_front-is bounds column columns = at i.is_empty i.is_one
   where
@@ -85,13 +81,13 @@ in_front-is bounds column columns = at i.is_empty i.is_one
 -- the column at a place, in front of those behind it
 pub front-at : (bounds : List Bound) (columns : List KeyColumn) (i : ℕ) (column : KeyColumn) → slice_get columns i ≡ Some column
     → range_over bounds (drop i columns) ≡ in_front (span_left bounds column.place column.kind) (drop (i + 1) columns) (range_over bounds (drop (i + 1) columns))
-front-at bounds columns i column at = ap (range_over bounds) (drop_at_place columns i column at) ∙ in_front-is bounds column (drop (i + 1) columns)
+front-at bounds columns i column at = ap (range_over bounds) (drop-at columns i column at) ∙ in_front-is bounds column (drop (i + 1) columns)
 
 abbrev pub total : List KeyColumn → ℕ
 total columns = sum_by (λ (column : KeyColumn). width column.kind) columns
 
 pub total-at : (columns : List KeyColumn) (i : ℕ) (column : KeyColumn) → slice_get columns i ≡ Some column → total (drop i columns) ≡ width column.kind + total (drop (i + 1) columns)
-total-at columns i column at = ap total (drop_at_place columns i column at) ∙ sum_by-cons (λ (c : KeyColumn). width c.kind) column (drop (i + 1) columns)
+total-at columns i column at = ap total (drop-at columns i column at) ∙ sum_by-cons (λ (c : KeyColumn). width c.kind) column (drop (i + 1) columns)
 
 pub total-end : (columns : List KeyColumn) (i : ℕ) → length columns ≤ i → total (drop i columns) ≡ 0
 total-end columns i end = ap total (drop_all i columns end)
@@ -110,10 +106,6 @@ total-kinds [] = refl
 total-kinds (column ∷ columns) =
     sum_by-cons (λ (c : KeyColumn). width c.kind) column columns ∙ ap (λ n. width column.kind + n) (total-kinds columns)
     ∙ sym (sum_by-cons width column.kind (map (λ (c : KeyColumn). c.kind) columns))
-
--- the key columns have together the bytes of a key, and some of them no more
-pub key_total : (table : TableDef) → total (key_columns table) ≡ key_width table
-key_total table = total-kinds (key_columns table) ∙ ap (sum_by width) (kinds_at (kinds table) table.key)
 
 pub total-less : (columns : List KeyColumn) (i : ℕ) → total (drop i columns) ≤ total columns
 total-less [] zero = omega arith

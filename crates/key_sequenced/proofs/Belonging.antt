@@ -6,7 +6,7 @@ use Rattle.std.specs.List.Sorted.{IsPartitionedBy}
 use Rattle.std.proofs.lemmas.List.Sums.{prefix_len-le-length}
 use Rattle.sql_base.specs.Keys.{key_lt, key_le}
 use Rattle.sql_base.proofs.KeyOrders.{key_le-trans, le_from_lt, lt-trans, lt_from_not_le, lt_le-trans}
-use Rattle.sql_base.proofs.ListFacts.{all_both, all_right, all-weaker}
+use Rattle.sql_base.proofs.ListFacts.{all_joined, all_right, all-weaker}
 use Rattle.sql_base.proofs.Truths.{plus-one}
 use Rattle.key_sequenced.specs.Blocks.{begins_by, begun_by, home, joined, AreBlocks, IsFilled}
 use Rattle.key_sequenced.specs.Cells.{AreCells}
@@ -22,7 +22,7 @@ AreAbove key cells = AllByRecursion (λ c. key_lt key c.key ≡ true) cells
 below-more : (a b : List ℕ) (cells : List Cell) → key_le a b ≡ true → AreBelow a cells → AreBelow b cells
 below-more a b cells le h = all-weaker (λ (c : Cell). key_lt c.key a ≡ true) (λ c. key_lt c.key b ≡ true) (λ c lt. lt_le-trans c.key a b lt le) cells h
 
-above-more : (a b : List ℕ) (cells : List Cell) → key_lt a b ≡ true → AreAbove b cells → AreAbove a cells
+pub above-more : (a b : List ℕ) (cells : List Cell) → key_lt a b ≡ true → AreAbove b cells → AreAbove a cells
 above-more a b cells lt h = all-weaker (λ (c : Cell). key_lt b c.key ≡ true) (λ c. key_lt a c.key ≡ true) (λ c k. lt-trans a b c.key lt k) cells h
 
 -- the cells behind the first have greater keys
@@ -71,7 +71,7 @@ before-begun key block ((c ∷ cells) ∷ blocks) rise filled = at (key_le c.key
     at : (b : Bool) → key_le c.key key ≡ b → AreBelow key (joined (take (begun_by key blocks) ((c ∷ cells) ∷ blocks))) → AreBelow key (joined (take (begun_by key ((c ∷ cells) ∷ blocks)) (block ∷ (c ∷ cells) ∷ blocks)))
     at true e rest =
         let first : AreBelow key block = below-more c.key key block e (below-first block c (cells ++ joined blocks) rise) in
-        rw (one_more key (c ∷ cells) blocks true e) (all_both (λ (x : Cell). key_lt x.key key ≡ true) block (joined (take (begun_by key blocks) ((c ∷ cells) ∷ blocks))) first rest)
+        rw (one_more key (c ∷ cells) blocks true e) (all_joined (λ (x : Cell). key_lt x.key key ≡ true) block (joined (take (begun_by key blocks) ((c ∷ cells) ∷ blocks))) first rest)
     at false e rest = rw (one_more key (c ∷ cells) blocks false e) tt
 
 pub home-within : (key : List ℕ) (block : List Cell) (blocks : List (List Cell)) → home key (block ∷ blocks) < length (block ∷ blocks)

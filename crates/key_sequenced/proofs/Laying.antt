@@ -56,10 +56,6 @@ inserted-new t key row (c ∷ cells) none = at (slice_cmp nat_cmp c.key key) ref
     at Equal e none rest = absurd (let there : Some c ≡ None = sym (rw e refl) ∙ none in cc)
     at Greater e none rest = rw (turned c.key key Greater e) refl
 
-pub nothing-there : (o : Option Cell) → is_some o ≡ false → o ≡ None
-nothing-there None h = refl
-nothing-there (Some c) h = absurd (cc)
-
 pub rewritten-over : (t : TxnName) (key : List ℕ) (now : Option (List Value)) (cells : List Cell) (x : Cell) → is_key_of key (slice_get cells (below key cells)) ≡ true → x ≡ get_or cells (below key cells) x → set cells (below key cells) (rewritten t now x) ≡ rewritten_at t key now cells
 rewritten-over t key now [] x h is = absurd (false≢true h)
 rewritten-over t key now (c ∷ cells) x h is = at (slice_cmp nat_cmp c.key key) refl (λ k i. rewritten-over t key now cells x k i) h is

@@ -1,7 +1,7 @@
 -- What `parse` gives is the number of a word of digits.
 use Rattle.std.specs.Prelude.{codes, count_by, filter, not, String, string_bytes}
 use Rattle.std.specs.declared.alloc.Global.{Global}
-use Rattle.sql_base.proofs.ListFacts.{zip_length}
+use Rattle.sql_base.proofs.ListFacts.{zip_length, zip-push}
 use Rattle.std.proofs.Common.{◌≡◌, ◌≢◌, ◌<◌, ◌≤◌, ◌^◌, ◌+◌, ◌-◌, ℕ, Bool, drop, cond, zero, suc, List, [], ◌∷◌, ◌++◌, length, map, take, arith, get_or, append-nil, ap, ◌∙◌, refl, nat_eq, Ok, Err, Result, true, false, rules, subst, sym}
 use Rattle.std.specs.List.{AllZip}
 use Rattle.std.specs.Result.{OkIff}
@@ -43,12 +43,6 @@ map_more f ws i w within = ap (map f) (take_more ws i w within) ∙ map-append f
 
 -- lists that go together go on together
 module _ {A B C : Type 0} (R : B → C → Type 0) (f : A → B) where
-  zip_behind : (bs : List B) (cs : List C) (b : B) (c : C) → AllZip R bs cs → R b c → AllZip R (bs ++ b ∷ []) (cs ++ c ∷ [])
-  zip_behind [] [] b c each r = (r, tt)
-  zip_behind [] (y ∷ cs) b c each r = absurd each
-  zip_behind (v ∷ bs) [] b c each r = absurd each
-  zip_behind (v ∷ bs) (y ∷ cs) b c each r = (each.0, zip_behind bs cs b c each.1 r)
-
   -- of the words that pass a test, one more is left out
   pub passed_more : (p : B → Bool) (ws : List A) (xs : List C) (i : ℕ) (w : A) → i < length ws → get_or ws i w ≡ w → p (f w) ≡ false → AllZip R (filter p (map f (take i ws))) xs
       → AllZip R (filter p (map f (take (i + 1) ws))) xs
@@ -63,7 +57,7 @@ module _ {A B C : Type 0} (R : B → C → Type 0) (f : A → B) where
   taken_more p ws xs i w x within at passes each r =
       let front : filter p (map f (take (i + 1) ws)) ≡ filter p (map f (take i ws)) ++ filter p (f (get_or ws i w) ∷ []) = ap (filter p) (map_more f ws i w within) ∙ filter-append p (map f (take i ws)) (f (get_or ws i w) ∷ []) in
       let one : filter p (f (get_or ws i w) ∷ []) ≡ f w ∷ [] = ap (λ a. filter p (f a ∷ [])) at ∙ ap (λ b. cond b (f w ∷ []) []) passes in
-      subst (λ bs. AllZip R bs (xs ++ x ∷ [])) (sym (front ∙ ap (λ bs. filter p (map f (take i ws)) ++ bs) one)) (zip_behind (filter p (map f (take i ws))) xs (f w) x each r)
+      subst (λ bs. AllZip R bs (xs ++ x ∷ [])) (sym (front ∙ ap (λ bs. filter p (map f (take i ws)) ++ bs) one)) (zip-push R (filter p (map f (take i ws))) xs (f w) x each r)
 
   -- each word that passes goes with one of the second
   pub passing_at : (p : B → Bool) (ws : List A) (xs : List C) (i : ℕ) (w : A) → i < length ws → get_or ws i w ≡ w → p (f w) ≡ true → AllZip R (filter p (map f ws)) xs → (x : C) × R (f w) x

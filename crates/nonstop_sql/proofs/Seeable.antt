@@ -10,7 +10,7 @@ use Rattle.sql_base.specs.declared.scripts.Limits.{Limits}
 use Rattle.sql_base.specs.declared.scripts.Script.{Script}
 use Rattle.sql_base.specs.declared.tables.TableDef.{TableDef}
 use Rattle.sql_base.specs.declared.values.Value.{Value}
-use Rattle.sql_base.proofs.ListFacts.{all_both}
+use Rattle.sql_base.proofs.ListFacts.{all_joined}
 use Rattle.subset_blocks.specs.declared.Block.{Block}
 use Rattle.quantum_core.specs.Quantum.{answer, greatest, last_key, may_handle, refusal, row_of, rows_of, stopped, visits}
 use Rattle.quantum_core.specs.Verdicts.{Judged, judged}
@@ -180,7 +180,7 @@ module _ (limits : Limits) (are : AreLimits limits) where
   openings-limited (table ∷ tables) [] = tt
   openings-limited (table ∷ tables) (held ∷ rest) =
       let places = range_with_len 0 (length table.firsts + 1) in
-      all_both HasLimits (map (λ place. opening table place limits (rows_in_part table place held)) places) (openings_from limits tables rest) (places-limited table held places) (openings-limited tables rest)
+      all_joined HasLimits (map (λ place. opening table place limits (rows_in_part table place held)) places) (openings_from limits tables rest) (places-limited table held places) (openings-limited tables rest)
 
 pub can_be_seen : (script : Script) (kept : RunRecord) → Legal script kept → CanBeSeen kept
 can_be_seen script kept legal =

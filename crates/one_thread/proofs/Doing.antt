@@ -28,7 +28,7 @@ use Rattle.one_thread.proofs.Changed.{records_abort, records_changed, records_re
 use Rattle.one_thread.proofs.Fates.{kept_all, scans_are_one}
 use Rattle.one_thread.proofs.Keeping.{alike_both, alike_changed, alike_keys, alike_same, now_changed, restorable, Alike}
 use Rattle.one_thread.proofs.Sweeps.{change_fault, read_fault, window_abort, window_filter, window_map, window_values}
-use Rattle.sql_base.proofs.ListFacts.{all_both, all_left, all_right}
+use Rattle.sql_base.proofs.ListFacts.{all_joined, all_left, all_right}
 
 is_scan : (s : Statement) → Changing s → IsScan s
 is_scan (Update t sets predicate access) h = tt
@@ -78,7 +78,7 @@ change_done table s found old new n is suits found-is are (A, W, Z, W2, (whole, 
     let alike : Alike cells (A ++ (map (changed table s) W ++ Z)) = alike_both A A (W ++ Z) (map (changed table s) W ++ Z) (alike_same A) (alike_both W (map (changed table s) W) Z Z (alike_changed table s W) (alike_same Z)) in
     let likes : Alike old new = subst (λ cs. Alike cs new) (sym whole) (subst (Alike cells) result alike) in
     let rest = all_right IsNow A (W ++ Z) keyed in
-    let new_keyed : AllByRecursion IsNow (A ++ (map (changed table s) W ++ Z)) = all_both IsNow A (map (changed table s) W ++ Z) (all_left IsNow A (W ++ Z) keyed) (all_both IsNow (map (changed table s) W) Z (now_changed table s W suits (all_left IsNow W Z rest)) (all_right IsNow W Z rest)) in (
+    let new_keyed : AllByRecursion IsNow (A ++ (map (changed table s) W ++ Z)) = all_joined IsNow A (map (changed table s) W ++ Z) (all_left IsNow A (W ++ Z) keyed) (all_joined IsNow (map (changed table s) W) Z (now_changed table s W suits (all_left IsNow W Z rest)) (all_right IsNow W Z rest)) in (
       ap (λ cs. one_on table s (nows cs)) whole ∙ done_by table s (nows cells) (nows new) n is fault number becomes,
       record { rise = subst Rise (sym (alike_keys old new likes)) are.rise; keyed = subst (AllByRecursion IsNow) result new_keyed },
       restorable table old new likes,

@@ -2,7 +2,7 @@
 use Rattle.std.proofs.Common.{◌≡◌, ◌≤◌, ◌<◌, ◌+◌, ◌-◌, ℕ, zero, suc, List, [], ◌∷◌, ◌++◌, length, get_or, take, drop, map, Bool, true, false, refl, ap, sym, ◌∙◌, subst, arith, length-drop, length-append}
 use Rattle.std.specs.Prelude.{min, max}
 use Rattle.std.specs.List.{AllByRecursion}
-use Rattle.std.proofs.lemmas.List.{get_or-drop, get_or-take, get_or_append_left, get_or-append-add, length-take, take-append-drop}
+use Rattle.std.proofs.lemmas.List.{get_or-append-add, get_or-drop, get_or-take, get_or_append_left, length-take, map-append, take-append-drop}
 use Rattle.one_thread.specs.Scaffold.Cells.{ended, old_row}
 use Rattle.one_thread.specs.Scaffold.Touched.{AreSame}
 use Rattle.one_thread.specs.declared.cells.Before.{Before}
@@ -21,10 +21,6 @@ still : (commit : Bool) (cells : List Cell) → AllByRecursion IsSame cells → 
 still commit [] all = refl
 still commit (c ∷ cells) all = ap (λ d. d ∷ map (ended commit) cells) (ended_same commit c all.0) ∙ ap (λ ds. c ∷ ds) (still commit cells all.1)
 
-map_both : (f : Cell → Cell) (xs ys : List Cell) → map f (xs ++ ys) ≡ map f xs ++ map f ys
-map_both f [] ys = refl
-map_both f (x ∷ xs) ys = ap (λ zs. f x ∷ zs) (map_both f xs ys)
-
 -- outside of the places from first to end nothing is to be done
 pub ended_within : (commit : Bool) (cells new : List Cell) (first end : ℕ) → first ≤ end → end ≤ length cells → AllByRecursion IsSame (take first cells) → AllByRecursion IsSame (drop (end - first) (drop first cells))
     → new ≡ take first cells ++ (map (ended commit) (take (end - first) (drop first cells)) ++ drop (end - first) (drop first cells)) → new ≡ map (ended commit) cells
@@ -36,7 +32,7 @@ ended_within commit cells new first end le within below behind is =
     let rest = drop n from in
     let split : cells ≡ take first cells ++ (inside ++ rest) = sym (ap (λ cs. take first cells ++ cs) (take-append-drop n from) ∙ take-append-drop first cells) in
     is ∙ ap (λ cs. cs ++ (map f inside ++ rest)) (sym (still commit (take first cells) below)) ∙ ap (λ cs. map f (take first cells) ++ (map f inside ++ cs)) (sym (still commit rest behind))
-    ∙ ap (λ cs. map f (take first cells) ++ cs) (sym (map_both f inside rest)) ∙ sym (map_both f (take first cells) (inside ++ rest)) ∙ ap (map f) (sym split)
+    ∙ ap (λ cs. map f (take first cells) ++ cs) (sym (map-append f inside rest)) ∙ sym (map-append f (take first cells) (inside ++ rest)) ∙ ap (map f) (sym split)
 
 pub same_below : (cells : List Cell) (first end low high : ℕ) → AreSame first end cells → high ≡ min end (length cells) → low ≡ min first high → AllByRecursion IsSame (take low cells)
 same_below cells first end low high same h l = all_take IsSame cells low (omega arith) (λ k d lt. same.below k d (omega arith) (omega arith))

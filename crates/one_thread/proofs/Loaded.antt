@@ -20,6 +20,7 @@ use Rattle.one_thread.specs.declared.cells.Cell.{Cell}
 use Rattle.one_thread.proofs.Rising.{keys}
 use Rattle.one_thread.proofs.Spots.{row-length}
 use Rattle.sql_base.proofs.Truths.{eqb-swapped, not-true}
+use Rattle.sql_base.proofs.ListFacts.{map-push}
 
 -- ---- the LOAD rows
 
@@ -30,7 +31,7 @@ no_load (load ∷ loads) n h =
     let parts = or_parts (eqb n load.table) (list_any (nat_eq n) (map (λ l. l.table) loads)) h in
     rw (eqb-swapped n load.table parts.0) (no_load loads n parts.1)
 
-load_by : (tables : List TableDef) (load : Load) (loads : List Load) (n : ℕ) (table : TableDef) (b : Bool) → (load.table == n) ≡ b → slice_get tables n ≡ Some table → IsLoad tables load
+pub load_by : (tables : List TableDef) (load : Load) (loads : List Load) (n : ℕ) (table : TableDef) (b : Bool) → (load.table == n) ≡ b → slice_get tables n ≡ Some table → IsLoad tables load
     → list_any (nat_eq load.table) (map (λ l. l.table) loads) ≡ false → AreRecords table (load_rows loads n) → AreRecords table ((cond b load.rows []) ++ load_rows loads n)
 load_by tables load loads n table true e is h differ rest =
     let at : load.table ≡ n = eqb-true load.table n e in
@@ -78,10 +79,6 @@ all_push row_of (t ∷ tables) (cs ∷ world) table cells are is = (are.0, all_p
 all_push row_of [] (cs ∷ world) table cells are is = absurd are
 all_push row_of (t ∷ tables) [] table cells are is = absurd are
 
-map_push : {A B : Type 0} (f : A → B) (xs : List A) (x : A) → map f (xs ++ x ∷ []) ≡ map f xs ++ f x ∷ []
-map_push f [] x = refl
-map_push f (y ∷ ys) x = ap (λ zs. f y ∷ zs) (map_push f ys x)
-
 take_push : {A : Type 0} (xs : List A) (i : ℕ) (d : A) → i < length xs → take (suc i) xs ≡ take i xs ++ get_or xs i d ∷ []
 take_push [] i d lt = absurd (omega arith)
 take_push (x ∷ xs) zero d lt = refl
@@ -110,11 +107,11 @@ opens script i d world cells is lt so_far made =
     let range : range_with_len 0 (i + 1) ≡ range_with_len 0 i ++ i ∷ [] = ap (range_with_len 0) (sym next) ∙ range_push 0 i ∙ ap (λ k. range_with_len 0 i ++ k ∷ []) (omega arith) in
     let its : nows cells ≡ rows = ap nows made ∙ rows_of table rows in
     record {
-      records = map_push nows world cells ∙ ap (λ rs. rs ++ nows cells ∷ []) so_far.records ∙ ap (λ r. map (load_rows script.loads) (range_with_len 0 i) ++ r ∷ []) its
-          ∙ sym (ap (map (load_rows script.loads)) range ∙ map_push (load_rows script.loads) (range_with_len 0 i) i);
+      records = map-push nows world cells ∙ ap (λ rs. rs ++ nows cells ∷ []) so_far.records ∙ ap (λ r. map (load_rows script.loads) (range_with_len 0 i) ++ r ∷ []) its
+          ∙ sym (ap (map (load_rows script.loads)) range ∙ map-push (load_rows script.loads) (range_with_len 0 i) i);
       settled = record {
         now = subst (λ ts. AreAll now_of ts (world ++ cells ∷ [])) (sym tables) (all_push now_of (take i script.tables) world table cells so_far.settled.now now);
         before = subst (λ ts. AreAll before_of ts (world ++ cells ∷ [])) (sym tables) (all_push before_of (take i script.tables) world table cells so_far.settled.before before);
-        same = map_push befores world cells ∙ ap (λ rs. rs ++ befores cells ∷ []) so_far.settled.same ∙ ap (λ r. map nows world ++ r ∷ []) (ap befores made ∙ rows_before table rows ∙ sym its) ∙ sym (map_push nows world cells);
+        same = map-push befores world cells ∙ ap (λ rs. rs ++ befores cells ∷ []) so_far.settled.same ∙ ap (λ r. map nows world ++ r ∷ []) (ap befores made ∙ rows_before table rows ∙ sym its) ∙ sym (map-push nows world cells);
       };
     }

@@ -27,7 +27,8 @@ use Rattle.one_thread.specs.declared.cells.Cell.{Cell}
 use Rattle.one_thread.proofs.Rising.{keys}
 use Rattle.one_thread.proofs.Parts.{all_above, all_drop, all_take, none_equal, one_equal, parts_at, placed_between, rise_between, rise_drop, rows_have, set_at, AllAbove, AllBelow}
 use Rattle.sql_base.proofs.Orderings.{key_lt-other}
-use Rattle.sql_base.proofs.ListFacts.{all_both, all_left, all_right}
+use Rattle.sql_base.proofs.ListFacts.{all_joined, all_left, all_right}
+use Rattle.sql_base.proofs.Truths.{none-is}
 
 -- ---- finding the place
 
@@ -78,10 +79,10 @@ inserted table row key A mid B x key-is x-key x-row long empty same kept are ris
       allowed = or_abort (first_failing table.checks row) (key_of table row) (duplicate table row (nows (A ++ (mid ++ B)))) passes (ap (duplicate table row) old ∙ free);
       rows = new ∙ sym (placed_between table key now_of row (nows A) (nows B) (sym key-is) lower upper) ∙ ap (λ rows. Rattle.one_thread.specs.One.row_placed table row rows) (sym old);
       before = filter_map-append before_of A (x ∷ B) ∙ ap (λ rows. befores A ++ rows) (filter_map-append before_of (x ∷ []) B ∙ ap (λ rows. rows ++ befores B) (sym same) ∙ sym (filter_map-append before_of mid B)) ∙ sym (filter_map-append before_of A (mid ++ B));
-      now = record { rise = rise; keyed = all_both IsNow A (x ∷ B) in_A (subst (λ o. IfSome o (IsKeyed table x.key)) (sym x-row) (sym key-is ∙ sym x-key, long), in_B) };
+      now = record { rise = rise; keyed = all_joined IsNow A (x ∷ B) in_A (subst (λ o. IfSome o (IsKeyed table x.key)) (sym x-row) (sym key-is ∙ sym x-key, long), in_B) };
       keeps = λ h. record {
         rise = rise;
-        keyed = all_both IsBefore A (x ∷ B) (all_left IsBefore A (mid ++ B) h.keyed)
+        keyed = all_joined IsBefore A (x ∷ B) (all_left IsBefore A (mid ++ B) h.keyed)
             (kept (all_left IsBefore mid B (all_right IsBefore A (mid ++ B) h.keyed)), all_right IsBefore mid B (all_right IsBefore A (mid ++ B) h.keyed));
       };
     }
@@ -121,10 +122,6 @@ some_from : (o : Option (List Value)) → is_some o ≡ true → (r : List Value
 some_from (Some r) e = (r, refl)
 some_from None e = absurd cc
 
-none_from : (o : Option (List Value)) → is_some o ≡ false → o ≡ None
-none_from None e = refl
-none_from (Some r) e = absurd cc
-
 nowhere : Cell
 nowhere = record { key = []; row = None; before = Same }
 
@@ -152,7 +149,7 @@ empty_at : (table : TableDef) (row : List Value) (key : List ℕ) (cells : List 
 empty_at table row key cells at key-is long are found passes =
     let c = get_or cells at nowhere in
     let has = found.1 nowhere in
-    let none : c.row ≡ None = none_from c.row has.1 in
+    let none : c.row ≡ None = none-is c.row has.1 in
     let x : Cell = replaced c (Some row) in
     let whole : take at cells ++ c ∷ drop (suc at) cells ≡ cells = parts_at cells at nowhere found.0 in
     let parts : AreCells table now_of (take at cells ++ c ∷ drop (suc at) cells) = subst (AreCells table now_of) (sym whole) are in
@@ -188,7 +185,7 @@ free_at table row key cells (New at) other key-is are found =
 free_at table row key cells (Empty at) other key-is are found =
     let IsNow : Cell → Type 0 = λ c. IfSome (now_of c) (IsKeyed table c.key) in
     let c = get_or cells at nowhere in
-    let none : c.row ≡ None = none_from c.row (found.1 nowhere).1 in
+    let none : c.row ≡ None = none-is c.row (found.1 nowhere).1 in
     let whole : take at cells ++ c ∷ drop (suc at) cells ≡ cells = parts_at cells at nowhere found.0 in
     subst (λ cs. duplicate table row (nows cs) ≡ None) whole (free table row key (take at cells) (c ∷ []) (drop (suc at) cells) key-is (rw none refl) (subst (AllByRecursion IsNow) (sym whole) are.keyed) found.2.0 found.2.1)
 

@@ -1,5 +1,5 @@
 -- What is found by going through a list.
-use Rattle.std.proofs.Common.{◌≡◌, ◌+◌, ◌<◌, ℕ, List, [], ◌∷◌, ◌++◌, length, drop, get_or, true, cond, Bool, Option, Some, None, refl, ap, sym, ◌∙◌}
+use Rattle.std.proofs.Common.{◌≡◌, ◌+◌, ◌<◌, ℕ, List, [], ◌∷◌, ◌++◌, length, drop, get_or, true, cond, Bool, Some, ap, sym, ◌∙◌}
 use Rattle.std.specs.Prelude.{find, sum_by, slice_get, filter_map, option_to_list}
 use Rattle.std.specs.List.{cons_option}
 use Rattle.std.proofs.lemmas.List.{drop_more}
@@ -9,6 +9,7 @@ use Rattle.sql_base.specs.Rows.{chosen, width}
 use Rattle.sql_base.specs.declared.tables.ColumnKind.{ColumnKind}
 use Rattle.sql_base.specs.declared.values.Value.{Value}
 use Rattle.key_sequenced.specs.declared.Cell.{Cell}
+use Rattle.sql_base.proofs.ListFacts.{option-as_list}
 
 pub find_here : {X : Type 0} (p : X → Bool) (xs : List X) (i : ℕ) (d : X) → i < length xs → p (get_or xs i d) ≡ true → find p xs ≡ find p (drop i xs) → find p xs ≡ Some (get_or xs i d)
 find_here p xs i d lt passes so_far =
@@ -21,12 +22,8 @@ widths_left kinds places i place kind lt is found =
     ∙ ap (λ o. sum_by width (cons_option o (chosen (drop (i + 1) places) kinds))) found
     ∙ sum_by-cons width kind (chosen (drop (i + 1) places) kinds)
 
-one_or_none : (o : Option (List Value)) → option_to_list o ≡ cons_option o []
-one_or_none None = refl
-one_or_none (Some row) = refl
-
 -- the row of one more cell
 pub rows_more : (cells : List Cell) (cell : Cell) (rows more : List (List Value)) → rows ≡ filter_map (λ c. c.now) cells → more ≡ rows ++ option_to_list cell.now → more ≡ filter_map (λ c. c.now) (cells ++ cell ∷ [])
 rows_more cells cell rows more so_far one =
-    one ∙ ap (λ rs. rs ++ option_to_list cell.now) so_far ∙ ap (λ os. filter_map (λ c. c.now) cells ++ os) (one_or_none cell.now)
+    one ∙ ap (λ rs. rs ++ option_to_list cell.now) so_far ∙ ap (λ os. filter_map (λ c. c.now) cells ++ os) (option-as_list cell.now)
     ∙ sym (filter_map-append (λ c. c.now) cells (cell ∷ []))

@@ -1,7 +1,6 @@
 -- The checks before the kinds.
 use Rattle.std.proofs.Common.{◌≡◌, ◌<◌, ◌≤◌, ◌-◌, ℕ, zero, suc, List, [], ◌∷◌, length, get_or, Option, None, Result, Ok, Err, true, false, refl, ap, sym, ◌∙◌, arith}
 use Rattle.std.specs.Prelude.{nat_le, IfOk, slice_get, unwrap_or}
-use Rattle.std.proofs.lemmas.Bool.Decides.{nat_tests}
 use Rattle.sql_base.specs.declared.lock_names.TxnName.{TxnName}
 use Rattle.sql_base.specs.declared.faults.NoMemory.{NoMemory}
 use Rattle.dp_messages.specs.declared.requests.Ask.{Ask}
@@ -13,6 +12,7 @@ use Rattle.partition_core.specs.Scaffold.Contents.{Parts, state_of}
 use Rattle.partition_core.specs.Scaffold.Changes.{tells}
 use Rattle.partition_core.specs.declared.changes.Judgement.{Judgement}
 use Rattle.partition_core.proofs.Seats.{ended-seen}
+use Rattle.sql_base.proofs.Truths.{lt-not_le, le-is_true}
 
 read-or : (xs : List ℕ) (i d : ℕ) → i < length xs → unwrap_or (slice_get xs i) 0 ≡ get_or xs i d
 read-or [] i d lt = absurd (omega arith)
@@ -23,21 +23,15 @@ read-or (x ∷ xs) (suc i) d lt = read-or xs i d (omega arith)
 pub ended-kept : (q : Parts) (t : TxnName) (d : ℕ) → length q.seats ≡ length q.ended → t.session - 1 < length q.ended → (opener_of (state_of q) t.session).ended ≡ get_or q.ended (t.session - 1) d
 ended-kept q t d same within = ended-seen q.history q.seats q.ended (t.session - 1) same ∙ read-or q.ended (t.session - 1) d within
 
-above : (ordinal ended : ℕ) → ended < ordinal → nat_le ordinal ended ≡ false
-above ordinal ended h = grind (arith, nat_tests)
-
-not-above : (ordinal ended : ℕ) → ordinal ≤ ended → nat_le ordinal ended ≡ true
-not-above ordinal ended h = grind (arith, nat_tests)
-
--- the attempt is above the last that ended
+-- the attempt is lt-not_le the last that ended
 pub not_ended : (q : Parts) (t : TxnName) (d : ℕ) → length q.seats ≡ length q.ended → t.session - 1 < length q.ended → get_or q.ended (t.session - 1) d < t.ordinal → nat_le t.ordinal (opener_of (state_of q) t.session).ended ≡ false
-not_ended q t d same within h = ap (nat_le t.ordinal) (ended-kept q t d same within) ∙ above t.ordinal (get_or q.ended (t.session - 1) d) h
+not_ended q t d same within h = ap (nat_le t.ordinal) (ended-kept q t d same within) ∙ lt-not_le t.ordinal (get_or q.ended (t.session - 1) d) h
 
 -- or it isn't
 pub judged-ended : (q : Parts) (t : TxnName) (ask : Ask) (d : ℕ) → length q.seats ≡ length q.ended → t.session - 1 < length q.ended → t.ordinal ≤ get_or q.ended (t.session - 1) d → refused (state_of q) (AfterEnd (get_or q.ended (t.session - 1) d)) ≡ answered (state_of q) t ask
 judged-ended q t ask d same within h =
     let ended = ended-kept q t d same within in
-    let old : nat_le t.ordinal (opener_of (state_of q) t.session).ended ≡ true = ap (nat_le t.ordinal) ended ∙ not-above t.ordinal (get_or q.ended (t.session - 1) d) h in
+    let old : nat_le t.ordinal (opener_of (state_of q) t.session).ended ≡ true = ap (nat_le t.ordinal) ended ∙ le-is_true t.ordinal (get_or q.ended (t.session - 1) d) h in
     let told : refused (state_of q) (AfterEnd (opener_of (state_of q) t.session).ended) ≡ answered (state_of q) t ask = rw old refl in
     ap (λ n. refused (state_of q) (AfterEnd n)) (sym ended) ∙ told
 

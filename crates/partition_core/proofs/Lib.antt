@@ -1,7 +1,6 @@
 pub mod Asked
 pub mod Coded
 pub mod Finding
-pub mod FirstKeys
 pub mod Judged
 pub mod KeptReplies
 pub mod Opened

@@ -10,7 +10,7 @@ use Rattle.partition_state.specs.State.{Opener, new_opener}
 use Rattle.partition_state.specs.declared.entries.Entry.{Entry}
 use Rattle.partition_core.specs.Scaffold.Contents.{IsPlace, IsSeat, entry_at, mark_of, opener_by, openers_in}
 use Rattle.partition_core.specs.Kept.{marked}
-use Rattle.sql_base.proofs.ListFacts.{slice_get-last}
+use Rattle.sql_base.proofs.ListFacts.{slice_get-last, all-set}
 
 slice_get-before : {X : Type 0} (xs : List X) (x : X) (i : ℕ) → i < length xs → slice_get (xs ++ x ∷ []) i ≡ slice_get xs i
 slice_get-before [] x i lt = absurd (omega arith)
@@ -56,16 +56,6 @@ seen_by last false place n (Some e) h = record { last = sym (h refl); starved = 
 
 pub seat-seen : (history : List Entry) (seat : Seat ℕ) (n : ℕ) → IsSeat history seat → IsSeen seat (entry_at history seat.kept) (marked (mark_of seat) (opener_by n (entry_at history seat.kept)))
 seat-seen history seat n h = seen_by seat.last seat.starved seat.kept n (entry_at history seat.kept) h.unmarked
-
-pub length-slice_set : {A : Type 0} (xs : List A) (i : ℕ) (x : A) → length (slice_set xs i x) ≡ length xs
-length-slice_set [] i x = refl
-length-slice_set (y ∷ xs) zero x = refl
-length-slice_set (y ∷ xs) (suc i) x = ap suc (length-slice_set xs i x)
-
-pub all-set : {A : Type 0} (P : A → Type 0) (xs : List A) (i : ℕ) (x : A) → P x → AllByRecursion P xs → AllByRecursion P (slice_set xs i x)
-all-set P [] i x new h = tt
-all-set P (y ∷ xs) zero x new h = (new, h.1)
-all-set P (y ∷ xs) (suc i) x new h = (h.0, all-set P xs i x new h.1)
 
 by-last : (n m : ℕ) (entry : Option Entry) → (opener_by n entry).last ≡ (opener_by m entry).last
 by-last n m None = refl

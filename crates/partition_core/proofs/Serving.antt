@@ -32,8 +32,8 @@ use Rattle.partition_core.specs.declared.changes.Change.TheVariants.{Stays, Begi
 use Rattle.partition_core.specs.declared.changes.Judgement.{Judgement}
 use Rattle.partition_core.proofs.Asked.{doing-asked}
 use Rattle.partition_core.proofs.Replays.{IsReplayed-served}
-use Rattle.partition_core.proofs.Seats.{length-slice_set, openers-ended, openers-noted, opener-seen, seat-is, seats-noted}
-use Rattle.sql_base.proofs.ListFacts.{all-filter, all-push, map_set}
+use Rattle.partition_core.proofs.Seats.{openers-ended, openers-noted, opener-seen, seat-is, seats-noted}
+use Rattle.sql_base.proofs.ListFacts.{all-filter, all-push, map_set, length-set}
 
 -- the state at an end, by its cells and openers
 abbrev ended_with : Parts → TxnName → List Cell → ℕ → List Opener → State
@@ -72,8 +72,8 @@ fixed q t (Advances plans subset last) = record { table = refl; place = refl; li
 fixed q t (Closes plans subset) = record { table = refl; place = refl; limits = refl; rows = refl; history = refl; seats = refl; ended = refl }
 fixed q t (Inserts key row lock) = record { table = refl; place = refl; limits = refl; rows = refl; history = refl; seats = refl; ended = refl }
 fixed q t Prepares = record { table = refl; place = refl; limits = refl; rows = refl; history = refl; seats = refl; ended = refl }
-fixed q t (Commits stamp) = record { table = refl; place = refl; limits = refl; rows = refl; history = refl; seats = refl; ended = length-slice_set q.ended (t.session - 1) t.ordinal }
-fixed q t Undoes = record { table = refl; place = refl; limits = refl; rows = refl; history = refl; seats = refl; ended = length-slice_set q.ended (t.session - 1) t.ordinal }
+fixed q t (Commits stamp) = record { table = refl; place = refl; limits = refl; rows = refl; history = refl; seats = refl; ended = length-set q.ended (t.session - 1) t.ordinal }
+fixed q t Undoes = record { table = refl; place = refl; limits = refl; rows = refl; history = refl; seats = refl; ended = length-set q.ended (t.session - 1) t.ordinal }
 
 formed-changed : (q : Parts) (t : TxnName) (change : Change) → IsFormed q → IsFormed (changed q t change)
 formed-changed q t Stays h = h
@@ -183,6 +183,6 @@ IsServing-after q opener sync request j serving lies fresh told fits =
       rows = subst (λ (table : TableDef). RowsKeep (IsRowAt table) (state_of (noted_parts q1 e))) (sym f.table) (subst (RowsKeep (IsRowAt q.table)) (sym now) rows);
       works = subst (λ (table : TableDef). Works table q1.blocks) (sym f.table) (works-changed q t j.change fits serving.works);
       seats = seats-noted q1.history e q1.seats (opener - 1) seats;
-      eight = length-slice_set q1.seats (opener - 1) (kept_as sync (length q1.history)) ∙ ap length f.seats ∙ serving.eight;
+      eight = length-set q1.seats (opener - 1) (kept_as sync (length q1.history)) ∙ ap length f.seats ∙ serving.eight;
       eight_ended = f.ended ∙ serving.eight_ended;
     }

@@ -13,8 +13,8 @@ use Rattle.partition_laws.specs.Keeping.{Keeps, RowsKeep}
 use Rattle.partition_core.specs.Kept.{AreMarked, Kept, Serves, marked, opener_in, served, starved}
 use Rattle.partition_core.specs.Scaffold.Contents.{Parts, IsPlace, IsRowAt, IsServing, entry_at, kept_of, mark_of, opener_by, state_of}
 use Rattle.partition_core.specs.Settling.{ServesSettling, settles}
-use Rattle.partition_core.proofs.Seats.{IsSeen, length-slice_set, mark-seen, opener-seen, openers-starved, seat-is, seat-seen, seats-starved}
-use Rattle.sql_base.proofs.ListFacts.{map_set}
+use Rattle.partition_core.proofs.Seats.{IsSeen, mark-seen, opener-seen, openers-starved, seat-is, seat-seen, seats-starved}
+use Rattle.sql_base.proofs.ListFacts.{map_set, length-set}
 
 -- an opener is as its seat says
 pub seen : (q : Parts) (opener : ℕ) → IsServing q → IsSeen (seat_of q.seats opener) (entry_at q.history (seat_of q.seats opener).kept) (opener_in (kept_of q) opener)
@@ -66,7 +66,7 @@ IsServing-starved q opener sync serving fresh =
       rows = subst (RowsKeep (IsRowAt q.table)) (sym same) serving.rows;
       works = serving.works;
       seats = seats-starved q.history q.seats (opener - 1) sync serving.seats fresh;
-      eight = length-slice_set q.seats (opener - 1) (starved_at sync (seat_of q.seats opener)) ∙ serving.eight;
+      eight = length-set q.seats (opener - 1) (starved_at sync (seat_of q.seats opener)) ∙ serving.eight;
       eight_ended = serving.eight_ended;
     }
 

@@ -11,7 +11,7 @@ use Rattle.sql_base.specs.declared.lock_names.Mode.{Mode}
 use Rattle.std.proofs.lemmas.Bool.Decides.{nat_tests}
 use Rattle.sql_base.specs.declared.key_ranges.KeyRange.{KeyRange}
 use Rattle.sql_base.specs.declared.key_ranges.Start.TheVariants.{At}
-use Rattle.std.proofs.Common.{◌≡◌, ◌<◌, ◌≤◌, ◌&&◌, ℕ, List, [], length, Bool, true, false, is_some, cond, Option, Some, None, Result, Ok, Err, IfOk, refl, ap, sym, ◌∙◌, subst, arith}
+use Rattle.std.proofs.Common.{◌≡◌, ◌<◌, ◌≤◌, ◌&&◌, ℕ, List, [], length, Bool, true, false, is_some, cond, Option, Some, None, refl, ap, sym, ◌∙◌, subst, arith}
 use Rattle.sql_base.specs.Keys.{key_eq}
 use Rattle.sql_base.specs.declared.faults.Cause.{Cause}
 use Rattle.sql_base.specs.declared.lock_names.Access.{Access}
@@ -128,11 +128,6 @@ next-fits q n plans (answers.Ended rows changed) few = record { few = few; opene
 next-fits q n plans (answers.Redrive last cause rows changed) few = record { few = few; opened = tt }
 next-fits q n plans (answers.Locked lock) few = record { few = omega arith; opened = tt }
 next-fits q n plans (answers.Failed key fault) few = record { few = omega arith; opened = tt }
-
--- two clauses of one call
-pub if_both : {X E : Type 0} (r : Result X E) (P Q R : X → Type 0) → ((x : X) → P x → Q x → R x) → IfOk r P → IfOk r Q → IfOk r R
-if_both (Ok x) P Q R join p q = join x p q
-if_both (Err e) P Q R join p q = tt
 
 -- a block at its beginning, in a partition with room for one more
 abbrev pub first_block : TxnName → Access → SetWork → KeyRange → Block SetWork

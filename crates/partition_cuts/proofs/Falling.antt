@@ -8,6 +8,7 @@ use Rattle.sql_base.specs.Tables.{first_key, first_keys}
 use Rattle.sql_base.specs.declared.tables.TableDef.{TableDef}
 use Rattle.sql_base.specs.declared.values.Value.{Value}
 use Rattle.partition_cuts.specs.Checks.{falls}
+use Rattle.sql_base.proofs.ListFacts.{drop-past}
 
 -- where nothing falls, all rise
 pub rise_from : (place : ℕ) (before : List ℕ) (keys : List (List ℕ)) → falls place before keys ≡ None → Rise (before ∷ keys)
@@ -23,12 +24,6 @@ drop_step [] i key e = absurd (cc)
 drop_step (k ∷ keys) zero key e = let same : k ≡ key = cc in ap (λ x. x ∷ keys) same
 drop_step (k ∷ keys) (suc i) key e = drop_step keys i key e
 
-drop_done : (keys : List (List ℕ)) (i : ℕ) → length keys ≤ i → drop i keys ≡ []
-drop_done [] zero h = refl
-drop_done [] (suc i) h = refl
-drop_done (k ∷ keys) zero h = absurd (omega arith)
-drop_done (k ∷ keys) (suc i) h = drop_done keys i (omega arith)
-
 -- one first key more
 pub falls_more : (table : TableDef) (i : ℕ) (before : List ℕ) (first : List Value) → slice_get table.firsts i ≡ Some first
     → falls i before (drop i (first_keys table)) ≡ (if key_lt before (first_key table first) then falls (i + 1) (first_key table first) (drop (i + 1) (first_keys table)) else Some i)
@@ -38,4 +33,4 @@ falls_more table i before first e =
     ap (falls i before) (drop_step (first_keys table) i (first_key table first) there) ∙ ap (λ n. if key_lt before (first_key table first) then falls (i + 1) (first_key table first) (drop n (first_keys table)) else Some i) more
 
 pub falls_done : (table : TableDef) (i : ℕ) (before : List ℕ) → length table.firsts ≤ i → falls i before (drop i (first_keys table)) ≡ None
-falls_done table i before h = ap (falls i before) (drop_done (first_keys table) i (omega (arith, length-map table.firsts (first_key table))))
+falls_done table i before h = ap (falls i before) (drop-past (first_keys table) i (omega (arith, length-map table.firsts (first_key table))))

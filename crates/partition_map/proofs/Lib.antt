@@ -1,1 +1,2 @@
+pub mod PartsOfTables
 mod WorkedRows

@@ -34,12 +34,12 @@ use Rattle.run_record.specs.Openings.{openings}
 use Rattle.run_record.specs.Tiles.{sents_of}
 use Rattle.ranges_laws.specs.Bytes.{IsKey}
 use Rattle.ranges_laws.specs.Pieces.{IsPiece}
-use Rattle.ranges_laws.proofs.Parts.{part_within}
 use Rattle.ranges_laws.proofs.Pieces.{cut-is_pieces}
 use Rattle.ranges_laws.proofs.Ranges.{keys_are_keys, ranges_are_bounds, ranges_begin}
 use Rattle.plans_laws.specs.Scaffold.Fits.{CarriesFilter, CarriesSets, Fits, PlansFit}
 use Rattle.plans_laws.proofs.Opened.{opens-here, table_is}
 use Rattle.serial_laws.proofs.Rooms.{packed-back}
+use Rattle.partition_map.proofs.PartsOfTables.{part_within}
 
 -- the columns are some, and the table's
 all_within : (n : ℕ) (columns : List ℕ) → AllByRecursion (λ c. c < n) columns → list_all (λ c. nat_lt c n) columns ≡ true

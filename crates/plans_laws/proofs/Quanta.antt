@@ -37,8 +37,8 @@ use Rattle.quantum_core.specs.declared.works.Doing.{Doing}
 use Rattle.quantum_core.specs.declared.works.Doing.TheVariants.{Read, Update, Delete}
 use Rattle.quantum_core.specs.declared.works.SetWork.{SetWork}
 use Rattle.dp_messages.specs.Spelling.{AreRowBytes, HasFour, IsFault, IsLock, IsLong, IsShort}
-use Rattle.partition_laws.proofs.Lists.{all-map, all-passing, find-some}
-use Rattle.sql_base.proofs.ListFacts.{all-take}
+use Rattle.sql_base.proofs.ListSearches.{all-passing, find-some}
+use Rattle.sql_base.proofs.ListFacts.{all-map, all-take}
 
 -- a lock that stands
 pub conflict-spelled : (locks : List Lock) (t : TxnName) (prefix : List ℕ) (mode : Mode) (lock : Lock) → AllByRecursion IsLock locks → first_conflict locks t prefix mode ≡ Some lock → IsLock lock

@@ -38,7 +38,7 @@ use Rattle.partition_state.specs.Step.{Answered, after_first, after_next, agains
 use Rattle.partition_state.specs.declared.lives.Live.{Live}
 use Rattle.partition_laws.specs.Keeping.{HasFloor}
 use Rattle.partition_laws.specs.Moves.{first_block}
-use Rattle.partition_laws.proofs.Lists.{find-some}
+use Rattle.sql_base.proofs.ListSearches.{find-some}
 use Rattle.plans_laws.specs.Spelled.{PartsSpelled, Spelled}
 use Rattle.plans_laws.proofs.Quanta.{IsQuantumReply, conflict-spelled, first_failing-spelled, quantum-spelled}
 use Rattle.sql_base.proofs.ListFacts.{all_at}

@@ -15,7 +15,6 @@ use Rattle.partition_state.specs.State.{Opener, State, new_cell, new_opener, ope
 use Rattle.partition_state.specs.Step.{step}
 use Rattle.partition_state.specs.declared.entries.Entry.{Entry}
 use Rattle.partition_laws.specs.Keeping.{CellHas}
-use Rattle.partition_laws.proofs.Lists.{all-each, all-map}
 use Rattle.ranges_laws.proofs.Ranges.{keys_are_keys}
 use Rattle.run_record.specs.Openings.{openings, openings_from, rows_in_part}
 use Rattle.serial_laws.specs.Scaffold.Sound.{FitsHere, Sound}
@@ -23,8 +22,7 @@ use Rattle.serial_laws.proofs.Opened.{sound-at, sound-opening}
 use Rattle.plans_laws.specs.Spelled.{CameSpelled, HistoriesSpelled, OpensSpelled, Spelled, envelope_of}
 use Rattle.plans_laws.proofs.Opened.{table_is}
 use Rattle.plans_laws.proofs.SpelledSteps.{replies_spelled, steps_spelled}
-use Rattle.state_facts.proofs.Openings.{all-append}
-use Rattle.sql_base.proofs.ListFacts.{all_at}
+use Rattle.sql_base.proofs.ListFacts.{all-map, all_at, all_of, all_joined}
 
 all-replicate : {X : Type 0} (P : X → Type 0) (n : ℕ) (x : X) → P x → AllByRecursion P (replicate n x)
 all-replicate P zero x h = tt
@@ -59,9 +57,8 @@ openings-spelled script is (table ∷ tables) a at =
     let here : slice_get script.tables a ≡ Some table = ap (slice_get script.tables) (sym zero_more) ∙ at 0 table refl in
     let open_at : ℕ → State = λ place. opening table place script.limits (rows_in_part table place (load_rows script.loads a)) in
     let places = range_with_len 0 (length table.firsts + 1) in
-    all-append Spelled (map open_at places) (openings_from script.limits tables (map (load_rows script.loads) (range_with_len (a + 1) (length tables))))
-    (all-map Spelled open_at places (all-each (λ place. Spelled (open_at place)) places
-    (λ place. opened-spelled table place script.limits (rows_in_part table place (load_rows script.loads a)) (table_is script a table is here) is.limits (sound-at script a place table is here))))
+    all_joined Spelled (map open_at places) (openings_from script.limits tables (map (load_rows script.loads) (range_with_len (a + 1) (length tables))))
+    (all-map Spelled open_at places (all_of (λ place. Spelled (open_at place)) (λ place. opened-spelled table place script.limits (rows_in_part table place (load_rows script.loads a)) (table_is script a table is here) is.limits (sound-at script a place table is here)) places))
     (openings-spelled script is tables (a + 1) (λ i t e. let more : a + suc i ≡ a + 1 + i = omega arith in ap (slice_get script.tables) (sym more) ∙ at (suc i) t e))
 
 pub opening-spelled : (script : Script) (part : ℕ) (p : State) → IsScript script → slice_get (openings script) part ≡ Some p → Spelled p

@@ -1,28 +1,25 @@
 -- What plans ask can be spelled.
-use Rattle.std.proofs.Common.{◌≡◌, ◌+◌, ◌-◌, ◌<◌, ◌≤◌, ◌&&◌, ◌||◌, ℕ, zero, suc, List, [], ◌∷◌, length, map, Option, Some, None, Bool, true, false, eqb, not, cond, refl, ap, sym, ◌∙◌, subst, arith, length-append}
+use Rattle.std.proofs.Common.{◌≡◌, ◌+◌, ◌-◌, ◌<◌, ◌≤◌, ◌&&◌, ◌||◌, ℕ, zero, suc, List, [], ◌∷◌, length, Option, Some, None, Bool, true, false, eqb, not, cond, refl, ap, sym, ◌∙◌, subst, arith}
 use Rattle.std.specs.Prelude.{slice_get, unwrap_or, nat_eq, nat_lt, IfSome, sum_by}
 use Rattle.std.specs.List.{AllByRecursion, list_all, list_any, range_with_len, starts_with}
 use Rattle.std.proofs.lemmas.Bool.{and_parts, eqb-false, eqb-true, false≢true, ltb-true, not-true, or_left, or_parts, or_right}
 use Rattle.std.proofs.lemmas.List.{length-map}
 use Rattle.std.proofs.lemmas.List.FromFn.{length-range_with_len}
-use Rattle.std.proofs.lemmas.List.Sums.{sum_by-cons}
 use Rattle.sql_base.specs.Rows.{kinds, unpacked, width}
 use Rattle.sql_base.specs.Scripts.{IsScript, Lies, parts_of}
 use Rattle.sql_base.specs.Tables.{IsFilter, IsStatement, all_differ}
 use Rattle.sql_base.specs.declared.expressions.Expr.{Expr}
 use Rattle.sql_base.specs.declared.key_ranges.KeyRange.{KeyRange}
-use Rattle.sql_base.specs.declared.scripts.Limits.{Limits}
 use Rattle.sql_base.specs.declared.scripts.Script.{Script}
 use Rattle.sql_base.specs.declared.scripts.Work.{Work}
 use Rattle.sql_base.specs.declared.statements.Statement.{Statement}
-use Rattle.sql_base.specs.declared.tables.TableDef.{TableDef}
 use Rattle.sql_base.specs.declared.values.Value.{Value}
 use Rattle.sql_base.proofs.UnpackedLength.{unpacked-length}
 use Rattle.dp_messages.specs.Spelling.{AreDistinct, IsAsk, IsLong, IsShort}
 use Rattle.dp_messages.specs.declared.requests.Ask.{Ask}
 use Rattle.dp_messages.specs.declared.requests.Ask.TheVariants as ask
 use Rattle.one_thread.specs.One.{load_rows, loaded}
-use Rattle.partition_state.specs.State.{State, opening}
+use Rattle.partition_state.specs.State.{State}
 use Rattle.partition_state.specs.Step.{are_columns_here, is_key_here, is_shaped, may_change}
 use Rattle.session_grammar.specs.Follows.{asker, works_of}
 use Rattle.session_grammar.specs.Plans.{filter_code, plan_of}
@@ -31,7 +28,7 @@ use Rattle.session_grammar.specs.declared.plans.Plan.TheVariants.{Singles, Subse
 use Rattle.session_grammar.specs.declared.plans.Sent.{Sent}
 use Rattle.session_laws.specs.Scaffold.Machine.{sents_of as asked_of}
 use Rattle.session_laws.proofs.Within.{Rise, plans_rise}
-use Rattle.run_record.specs.Openings.{openings, openings_from, rows_in_part}
+use Rattle.run_record.specs.Openings.{openings}
 use Rattle.run_record.specs.Tiles.{sents_of}
 use Rattle.plans_laws.specs.Asked.{IsSpelled, PlansSpelled}
 use Rattle.plans_laws.specs.Scaffold.Fits.{CarriesFilter, CarriesSets, Fits}
@@ -41,9 +38,9 @@ use Rattle.plans_laws.proofs.SpelledHistories.{opening-spelled}
 use Rattle.plans_laws.proofs.Replying.{key-short}
 use Rattle.record_laws.specs.Scaffold.Lanes.{is_begin, is_single}
 use Rattle.record_laws.proofs.Plans.{ArePlanned, IsAlone, IsBegin, planned}
-use Rattle.partition_laws.proofs.Lists.{all-weaker}
 use Rattle.sql_base.specs.Keys.{key_le}
-use Rattle.sql_base.proofs.ListFacts.{all_at, all_in, some-at}
+use Rattle.sql_base.proofs.ListFacts.{all-weaker, all_at, all_in, some-at}
+use Rattle.run_record.proofs.OpeningLengths.{openings-length}
 
 -- a prefix is no longer than what it begins
 prefix-short : (key prefix : List ℕ) → starts_with nat_eq key prefix ≡ true → length prefix ≤ length key
@@ -190,23 +187,6 @@ module _ (p : State) (h : Spelled p) where
   fits-spelled (ask.LockGranule prefix mode) f is = let most = h.table.key_bytes in omega (arith, f, most)
   fits-spelled other f is = absurd (false≢true is)
 
--- there are as many openings as partitions
-openings-length : (limits : Limits) (tables : List TableDef) (rows : List (List (List Value))) → length rows ≡ length tables → length (openings_from limits tables rows) ≡ parts_of tables
-openings-length limits [] [] e = refl
-openings-length limits [] (row ∷ rows) e = absurd (omega (arith, e))
-openings-length limits (table ∷ tables) [] e = absurd (omega (arith, e))
-openings-length limits (table ∷ tables) (row ∷ rows) e =
-    let rest = openings-length limits tables rows (omega (arith, e)) in
-    let here : List State = map (λ place. opening table place limits (rows_in_part table place row)) (range_with_len 0 (length table.firsts + 1)) in
-    omega (
-      arith,
-      rest,
-      length-map (range_with_len 0 (length table.firsts + 1)) (λ place. opening table place limits (rows_in_part table place row)),
-      length-range_with_len 0 (length table.firsts + 1),
-      length-append here (openings_from limits tables rows),
-      sum_by-cons (λ (d : TableDef). length d.firsts + 1) table tables,
-    )
-
 part-opens : (script : Script) (part : ℕ) → part < parts_of script.tables → (p : State) × (slice_get (openings script) part ≡ Some p)
 part-opens script part lt =
     let loads = length-map (range_with_len 0 (length script.tables)) (load_rows script.loads) ∙ length-range_with_len 0 (length script.tables) in
@@ -222,8 +202,8 @@ same_sents (Subsets sents) = refl
 same_sents (Singles sents) = refl
 
 begun-plan : (plan : Plan) → ArePlanned plan → AllByRecursion IsBegun (sents_of plan)
-begun-plan (Subsets sents) h = all-weaker IsBegin IsBegun sents (λ sent is. or_left (is_begin sent.ask) (is_single sent.ask) is) h
-begun-plan (Singles sents) h = all-weaker IsAlone IsBegun sents (λ sent is. or_right (is_begin sent.ask) (is_single sent.ask) is) h
+begun-plan (Subsets sents) h = all-weaker IsBegin IsBegun (λ sent is. or_left (is_begin sent.ask) (is_single sent.ask) is) sents h
+begun-plan (Singles sents) h = all-weaker IsAlone IsBegun (λ sent is. or_right (is_begin sent.ask) (is_single sent.ask) is) sents h
 
 module _ (script : Script) (is : IsScript script) where
   each-spelled : (sents : List Sent) → ((part : ℕ) (p : State) → slice_get (openings script) part ≡ Some p → AllByRecursion (FitsThere p part) sents)

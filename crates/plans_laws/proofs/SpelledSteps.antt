@@ -1,5 +1,5 @@
 -- A partition whose parts can be spelled stays so at each request.
-use Rattle.std.proofs.Common.{◌≡◌, ◌-◌, ◌&&◌, ℕ, zero, suc, List, [], ◌∷◌, Bool, true, false, cond, map, max, filter, not, Option, Some, None, refl, ap, sym, ◌∙◌, subst, arith}
+use Rattle.std.proofs.Common.{◌≡◌, ◌-◌, ◌&&◌, ℕ, List, [], ◌∷◌, Bool, true, false, cond, map, max, filter, not, Option, Some, None, refl, ap, sym, ◌∙◌, subst, arith}
 use Rattle.std.specs.Prelude.{◌==◌, filter_map, slice_set}
 use Rattle.std.specs.List.{AllByRecursion}
 use Rattle.std.proofs.lemmas.Bool.{and_parts, cond_both}
@@ -33,7 +33,7 @@ use Rattle.partition_state.specs.declared.lives.Live.{Live}
 use Rattle.partition_laws.specs.Moves.{Move, Stays, Enters, Starts, Opens, Closes, Advances, Inserts, Locks, Prepares, Commits, Undoes, Fits, Moved, after, after_quantum, by, granule_of, handled_by, x_lock}
 use Rattle.partition_laws.proofs.CellMoves.{all-inserted, cell_key, keys-after}
 use Rattle.partition_laws.proofs.KeepingMoves.{handled_in}
-use Rattle.partition_laws.proofs.Lists.{all-filter_map, all-map, all-passing, all-weaker, find-some}
+use Rattle.sql_base.proofs.ListSearches.{all-filter_map, all-passing, find-some}
 use Rattle.partition_laws.proofs.LiveMoves.{new_live, prepared-name}
 use Rattle.partition_laws.proofs.Moving.{moved}
 use Rattle.partition_laws.proofs.Names.{all-granted}
@@ -44,7 +44,7 @@ use Rattle.partition_laws.proofs.Steps.{Keeps-step}
 use Rattle.plans_laws.specs.Spelled.{PartsSpelled, RepliesSpelled, Spelled, StepsSpelled}
 use Rattle.plans_laws.proofs.Quanta.{IsJudged, IsQuantumReply, judged-spelled, quantum-spelled}
 use Rattle.plans_laws.proofs.Replying.{IsOnce, answer-spelled, key-short, opener-spelled}
-use Rattle.sql_base.proofs.ListFacts.{all-push, all-take}
+use Rattle.sql_base.proofs.ListFacts.{all-map, all-push, all-take, all-weaker, all-set}
 use Rattle.sql_base.proofs.Truths.{some-same}
 use Rattle.sql_base.proofs.RowFacts.{same_txn-is}
 
@@ -59,12 +59,6 @@ keys-all P (cell ∷ cells) h = (h.0, keys-all P cells h.1)
 all-keys : (P : List ℕ → Type 0) (cells : List Cell) → AllByRecursion P (map cell_key cells) → AllByRecursion (λ (cell : Cell). P cell.key) cells
 all-keys P [] h = tt
 all-keys P (cell ∷ cells) h = (h.0, all-keys P cells h.1)
-
--- an element put at a place
-all-set : {X : Type 0} (P : X → Type 0) (xs : List X) (i : ℕ) (x : X) → AllByRecursion P xs → P x → AllByRecursion P (slice_set xs i x)
-all-set P [] i x h hx = tt
-all-set P (y ∷ xs) zero x h hx = (hx, h.1)
-all-set P (y ∷ xs) (suc i) x h hx = (h.0, all-set P xs i x h.1 hx)
 
 -- the X locks of a quantum
 locks-spelled : (t : TxnName) (js : List Judged) (locks : List Lock) → HasFour t.session → HasFour t.ordinal → AllByRecursion IsJudged js → AllByRecursion IsLock locks → AllByRecursion IsLock (locks_after t js locks)
@@ -176,7 +170,7 @@ module _ (p : State) (h : Spelled p) (t : TxnName) (named : IsNamed t) where
   advanced-starts : (n : ℕ) (last : List ℕ) (blocks : List Block') → IsShort last → AllByRecursion ShortStart blocks → AllByRecursion ShortStart (advanced n last blocks)
   advanced-starts n last blocks short starts =
       all-map ShortStart (gone_on n last) blocks
-      (all-weaker ShortStart (λ (b : Block'). ShortStart (gone_on n last b)) blocks (λ b s. cond_both (b.number == n) (record b { block = record b.block { start = After last } }) b ShortStart (λ _. short) (λ _. s)) starts)
+      (all-weaker ShortStart (λ (b : Block'). ShortStart (gone_on n last b)) (λ b s. cond_both (b.number == n) (record b { block = record b.block { start = After last } }) b ShortStart (λ _. short) (λ _. s)) blocks starts)
 
   ended-parts : (kept : Cell → Option (List Value)) (high : ℕ) → HasEight high
       → PartsSpelled (record p {
@@ -192,7 +186,7 @@ module _ (p : State) (h : Spelled p) (t : TxnName) (named : IsNamed t) where
     locks = all-passing IsLock IsLock (λ lock. not (same_txn lock.holder t)) p.locks (λ lock _ l. l) h.parts.locks;
     starts = all-passing ShortStart ShortStart (λ (b : Block'). not (same_txn b.block.holder t)) p.blocks (λ b _ s. s) h.parts.starts;
     lives = all-passing FourLive FourLive (λ (l : Live). not (same_txn l.name t)) p.lives (λ l _ f. f) h.parts.lives;
-    ended = all-set (λ (o : Opener). HasFour o.ended) p.openers (t.session - 1) (record (opener_of p t.session) { ended = t.ordinal }) h.parts.ended named.ordinal;
+    ended = all-set (λ (o : Opener). HasFour o.ended) p.openers (t.session - 1) (record (opener_of p t.session) { ended = t.ordinal }) named.ordinal h.parts.ended;
     high = eight;
   }
 
@@ -236,7 +230,7 @@ module _ (p : State) (h : Spelled p) (t : TxnName) (named : IsNamed t) where
     keys = h.parts.keys;
     locks = h.parts.locks;
     starts = h.parts.starts;
-    lives = all-map FourLive (prepared t p.high) p.lives (all-weaker FourLive (λ (l : Live). FourLive (prepared t p.high l)) p.lives (λ l four. subst (λ (u : TxnName). HasFour u.ordinal) (sym (prepared-name t p.high l)) four) h.parts.lives);
+    lives = all-map FourLive (prepared t p.high) p.lives (all-weaker FourLive (λ (l : Live). FourLive (prepared t p.high l)) (λ l four. subst (λ (u : TxnName). HasFour u.ordinal) (sym (prepared-name t p.high l)) four) p.lives h.parts.lives);
     ended = h.parts.ended;
     high = h.parts.high;
   }
@@ -255,7 +249,7 @@ noted-parts q opener sync reply parts four = record {
   locks = parts.locks;
   starts = parts.starts;
   lives = parts.lives;
-  ended = all-set (λ (o : Opener). HasFour o.ended) q.openers (opener - 1) (record (opener_of q opener) { last = sync; starved = false; kept = Some reply }) parts.ended four;
+  ended = all-set (λ (o : Opener). HasFour o.ended) q.openers (opener - 1) (record (opener_of q opener) { last = sync; starved = false; kept = Some reply }) four parts.ended;
   high = parts.high;
 }
 

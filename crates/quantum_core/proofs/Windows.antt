@@ -8,6 +8,7 @@ use Rattle.key_sequenced.specs.Cells.{AreCells}
 use Rattle.key_sequenced.specs.declared.Cell.{Cell}
 use Rattle.sql_base.proofs.KeyOrders.{le_from_lt, key_le-trans, lt-trans}
 use Rattle.sql_base.proofs.ListFacts.{all-filter, all-take}
+use Rattle.key_sequenced.proofs.Belonging.{above-more}
 
 -- each key is below those behind it
 abbrev pub Ascends : List Cell → Type 0
@@ -18,18 +19,13 @@ Ascends (cell ∷ cells) = AllByRecursion (λ other. key_lt cell.key other.key �
 abbrev pub AreAbove : List ℕ → List Cell → Type 0
 AreAbove key cells = AllByRecursion (λ cell. key_lt key cell.key ≡ true) cells
 
--- what is below a key is below those above it
-above-trans : (a b : List ℕ) (cells : List Cell) → key_lt a b ≡ true → AreAbove b cells → AreAbove a cells
-above-trans a b [] h above = tt
-above-trans a b (cell ∷ cells) h above = (lt-trans a b cell.key h above.0, above-trans a b cells h above.1)
-
 -- rising keys ascend
 pub Ascends-from_rise : (cells : List Cell) → AreCells cells → Ascends cells
 Ascends-from_rise [] h = tt
 Ascends-from_rise (cell ∷ []) h = (tt, tt)
 Ascends-from_rise (cell ∷ other ∷ cells) h =
     let rest : Ascends (other ∷ cells) = Ascends-from_rise (other ∷ cells) h.1 in
-    ((h.0, above-trans cell.key other.key cells h.0 rest.0), rest)
+    ((h.0, above-more cell.key other.key cells h.0 rest.0), rest)
 
 -- a filter keeps the order
 pub Ascends-filter : (p : Cell → Bool) (cells : List Cell) → Ascends cells → Ascends (filter p cells)

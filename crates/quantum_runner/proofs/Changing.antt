@@ -29,7 +29,7 @@ use Rattle.quantum_runner.specs.Scaffold.Plans.{IsWalk, granted_by, handled_by, 
 use Rattle.quantum_runner.specs.declared.planned.Walk.{Walk}
 use Rattle.quantum_core.specs.declared.replies.QuantumReply.{QuantumReply}
 use Rattle.sql_base.specs.declared.scripts.Limits.{Limits}
-use Rattle.sql_base.proofs.Orderings.{equal-is, key_eq-swapped, reverse-differs}
+use Rattle.sql_base.proofs.Orderings.{equal-is, key_eq-swapped, key_gt-differs}
 use Rattle.sql_base.proofs.ListFacts.{all-take}
 
 -- each key is below those behind it
@@ -54,10 +54,6 @@ climb-handled : (table : TableDef) (locks : List Lock) (block : Block SetWork) (
 climb-handled table locks block cells n h =
     climb-take n (judged table locks block cells) (climb-judged table locks block (filter (is_candidate block) cells) (Ascends-filter (is_candidate block) cells (Ascends-from_rise cells h)))
 
--- a key isn't equal to one below it
-above-differs : (a b : List ℕ) → key_lt a b ≡ true → key_eq b a ≡ false
-above-differs a b h = ap is_eq (nat_list_cmp_total.antisymm b a) ∙ reverse-differs (slice_cmp nat_cmp a b) h
-
 -- keys that compare as equal compare alike with others
 eq-alike : (a b c : List ℕ) → key_eq a b ≡ true → key_eq c a ≡ key_eq c b
 eq-alike a b c h =
@@ -68,7 +64,7 @@ eq-alike a b c h =
 no-change : (key : List ℕ) (j : Judged) (js : List Judged) → key_eq j.key key ≡ true → AllByRecursion (λ k. key_lt j.key k.key ≡ true) js → change_at key js ≡ None
 no-change key j [] e h = refl
 no-change key j (k ∷ js) e h =
-    let differs : key_eq k.key key ≡ false = sym (eq-alike j.key key k.key e) ∙ above-differs j.key k.key h.0 in
+    let differs : key_eq k.key key ≡ false = sym (eq-alike j.key key k.key e) ∙ key_gt-differs k.key j.key h.0 in
     rw differs (no-change key j js e h.1)
 
 map-same : (f g : Cell → Cell) (cells : List Cell) → ((c : Cell) → f c ≡ g c) → map f cells ≡ map g cells

@@ -25,9 +25,9 @@ use Rattle.run_record.specs.Openings.{history_of, log_of}
 use Rattle.run_record.proofs.CrossedReplays.{fold-named, histories_replay, predicate_is, rows_kept, sets_are}
 use Rattle.run_record.proofs.CrossedSessions.{asked, begin, changed, committed, downward, first_log, kept, key, lock, locked_out, named, script, second_log, sets, table, update, upward}
 use Rattle.record_laws.specs.SoFar.{LegalSoFar, way_of}
-use Rattle.record_laws.proofs.Beginning.{nothing_open}
 use Rattle.record_laws.proofs.Finishing.{finished-legal}
 use Rattle.run_record.proofs.DrawnLogs.{of_logs}
+use Rattle.session_grammar.proofs.LogLists.{none_filled}
 
 -- the table may be declared
 is_table : IsTable table
@@ -211,8 +211,8 @@ second_follows = (locked_out ∷ [], second_reads)
 
 nothing_under_way : (session : ℕ) → Lies 1 2 session → AreAbove (log_of kept session) (way_of [] session) × BeginsWith script session (way_of [] session) (log_of kept session)
 nothing_under_way zero lies = absurd (omega (arith, lies.0))
-nothing_under_way (suc zero) lies = ((tt, refl), (first_log, [], nothing_open first_log, first_follows))
-nothing_under_way (suc (suc zero)) lies = ((tt, refl), (second_log, [], nothing_open second_log, second_follows))
+nothing_under_way (suc zero) lies = ((tt, refl), (first_log, [], none_filled first_log, first_follows))
+nothing_under_way (suc (suc zero)) lies = ((tt, refl), (second_log, [], none_filled second_log, second_follows))
 nothing_under_way (suc (suc (suc session))) lies = absurd (omega (arith, lies.1))
 
 served_so_far : (part session : ℕ) → part < 2 → Lies 1 2 session → AreServed (filter (is_for part) (log_of kept session ++ unanswered (way_of [] session))) (filter (λ e. e.opener == session) (history_of kept part))

@@ -30,7 +30,7 @@ use Rattle.record_laws.proofs.Attempts.{IsOwn, IsWork as IsWorkOf, parts-work}
 use Rattle.record_text.specs.Scaffold.Reading.{behind, behind_all, given_by, givens_read, is_locked_out, most_parts, ordinal_of, outcome_of, own, own_length, shown_read, tries_read, works_read}
 use Rattle.record_text.proofs.Outcomes.{outcome-read}
 use Rattle.record_text.proofs.PartsRead.{givens-read}
-use Rattle.session_laws.proofs.Loose.{all_on}
+use Rattle.sql_base.proofs.ListFacts.{all_joined}
 
 -- what counts of an attempt: of an aborted one not what its statements gave
 abbrev pub plain : Shown → Shown
@@ -96,16 +96,16 @@ ending-numbered r a (Some abort) commit h = ends-numbered a.ordinal ask.EndUndo 
 ending-numbered r a None false h = ends-numbered a.ordinal ask.EndUndo (touched r a) a.ending h.0
 ending-numbered r a None true (inl c) =
     subst (AllByRecursion (IsNumbered a.ordinal)) (sym c.ending_is)
-    (all_on (IsNumbered a.ordinal) c.prepares _ (prepares-numbered a.ordinal (touched r a) c.prepares c.floors c.prepared) (refl, ends-numbered a.ordinal (ask.EndCommit c.stamp) (touched r a) c.ends c.ended))
+    (all_joined (IsNumbered a.ordinal) c.prepares _ (prepares-numbered a.ordinal (touched r a) c.prepares c.floors c.prepared) (refl, ends-numbered a.ordinal (ask.EndCommit c.stamp) (touched r a) c.ends c.ended))
 ending-numbered r a None true (inr l) =
     subst (AllByRecursion (IsNumbered a.ordinal)) (sym l.ending_is)
-    (all_on (IsNumbered a.ordinal) l.prepares (l.lost ∷ l.ends) (prepares-numbered a.ordinal l.front l.prepares l.floors l.prepared)
+    (all_joined (IsNumbered a.ordinal) l.prepares (l.lost ∷ l.ends) (prepares-numbered a.ordinal l.front l.prepares l.floors l.prepared)
     (asked-numbered l.part a.ordinal ask.Prepare PathFailed l.lost l.lost_is, ends-numbered a.ordinal ask.EndUndo (touched r a) l.ends l.undone))
 
 attempt-numbered : (r : Asker) (a : Attempt) → IsOwn r a → AllByRecursion (IsNumbered a.ordinal) (entries_of a)
 attempt-numbered r a is =
     let p = is.parts_and_ending in
-    all_on (IsNumbered a.ordinal) (joined a.parts) a.ending (work-numbered a.ordinal (joined a.parts) (parts-work r a.ordinal a.work.statements a.parts p.0 p.1)) (ending-numbered r a p.0 a.work.commit p.2)
+    all_joined (IsNumbered a.ordinal) (joined a.parts) a.ending (work-numbered a.ordinal (joined a.parts) (parts-work r a.ordinal a.work.statements a.parts p.0 p.1)) (ending-numbered r a p.0 a.work.commit p.2)
 
 -- the entries of later attempts
 abbrev IsFrom : ℕ → LogEntry → Type 0
@@ -156,10 +156,10 @@ module _ (r : Asker) (few : parts_of r.tables ≤ most_parts) where
 
   tries-from : (work : Work) (n more : ℕ) (tries : List Attempt) → AreTries IsPart r work n more tries → AllByRecursion (IsFrom n) (flat_map entries_of tries)
   tries-from work n more [] h = absurd h
-  tries-from work n more (a ∷ []) h = all_on (IsFrom n) (entries_of a) [] (numbered-from n n (entries_of a) (omega arith) (numbered-as work n a h.0)) tt
+  tries-from work n more (a ∷ []) h = all_joined (IsFrom n) (entries_of a) [] (numbered-from n n (entries_of a) (omega arith) (numbered-as work n a h.0)) tt
   tries-from work n zero (a ∷ b ∷ rest) h = absurd h
   tries-from work n (suc more) (a ∷ b ∷ rest) h =
-      all_on (IsFrom n) (entries_of a) (flat_map entries_of (b ∷ rest)) (numbered-from n n (entries_of a) (omega arith) (numbered-as work n a h.0))
+      all_joined (IsFrom n) (entries_of a) (flat_map entries_of (b ∷ rest)) (numbered-from n n (entries_of a) (omega arith) (numbered-as work n a h.0))
       (from-lower (n + 1) n (flat_map entries_of (b ∷ rest)) (omega arith) (tries-from work (n + 1) more (b ∷ rest) h.2))
 
   -- what is read of a transaction's attempts
@@ -208,7 +208,7 @@ module _ (r : Asker) (few : parts_of r.tables ≤ most_parts) where
       let numbered = numbered-as work n a h.0 in
       let more_log = flat_map entries_of (b ∷ tries) ++ rest in
       let split : log ≡ entries_of a ++ more_log = is ∙ append_assoc (entries_of a) (flat_map entries_of (b ∷ tries)) rest in
-      let above : AllByRecursion (IsFrom (n + 1)) more_log = all_on (IsFrom (n + 1)) (flat_map entries_of (b ∷ tries)) rest (tries-from work (n + 1) more (b ∷ tries) h.2)
+      let above : AllByRecursion (IsFrom (n + 1)) more_log = all_joined (IsFrom (n + 1)) (flat_map entries_of (b ∷ tries)) rest (tries-from work (n + 1) more (b ∷ tries) h.2)
       (from-lower (n + length (a ∷ b ∷ tries)) (n + 1) rest (omega arith) later) in
       let mine : own n log ≡ entries_of a = ap (own n) split ∙ own-is n (entries_of a) more_log numbered above in
       let left_is : behind n log ≡ more_log = ap (behind n) split ∙ behind-is n (entries_of a) more_log numbered above in
@@ -230,7 +230,7 @@ module _ (r : Asker) (few : parts_of r.tables ≤ most_parts) where
   attempts-from n [] attempts h = subst (λ (xs : List Attempt). AllByRecursion (IsFrom n) (flat_map entries_of xs)) (sym h) tt
   attempts-from n (work ∷ works) attempts (tries, rest, is, are, more) =
       subst (AllByRecursion (IsFrom n)) (sym (ap (flat_map entries_of) is ∙ flat_map-append entries_of tries rest))
-      (all_on (IsFrom n) (flat_map entries_of tries) (flat_map entries_of rest) (tries-from work n r.limits.restart tries are)
+      (all_joined (IsFrom n) (flat_map entries_of tries) (flat_map entries_of rest) (tries-from work n r.limits.restart tries are)
       (from-lower (n + length tries) n (flat_map entries_of rest) (omega arith) (attempts-from (n + length tries) works rest more)))
 
   -- what is read of all transactions of a session

@@ -17,7 +17,8 @@ use Rattle.session_grammar.specs.Plans.{Asker}
 use Rattle.session_grammar.specs.declared.plans.Sent.{Sent}
 use Rattle.session_grammar.specs.Rows.{IsAsked, IsExchange, failure, is_end, is_for}
 use Rattle.record_text.specs.Scaffold.Reading.{failure_behind, last_failure}
-use Rattle.session_laws.proofs.Loose.{all_on}
+use Rattle.session_laws.proofs.Loose.{asked_work}
+use Rattle.sql_base.proofs.ListFacts.{all_joined}
 
 -- what was asked of one partition, and no End
 abbrev pub IsWork : ℕ → LogEntry → Type 0
@@ -69,10 +70,6 @@ module _ (part : ℕ) where
   row-last zero found request (e ∷ f ∷ es) answer none h = absurd h
   row-last (suc n) found request (e ∷ f ∷ es) answer none h = row-last n (failure_behind part found e) request (f ∷ es) answer none h.1
 
-asked_work : (part : ℕ) (request : Request) (answer : Answer) (e : LogEntry) → is_end request.ask ≡ false → IsAsked part request answer e → IsWork part e
-asked_work part request answer (Asked p s q l a) none h = (h.0, ap (λ (x : Request). is_end x.ask) h.1 ∙ none)
-asked_work part request answer (Drew n f a) none h = absurd h
-
 pub row_work : (n part : ℕ) (request : Request) (row : List LogEntry) (answer : Answer) → is_end request.ask ≡ false → IsExchange n part request row answer → AllByRecursion (IsWork part) row
 row_work n part request [] answer none h = absurd h
 row_work n part request (e ∷ []) answer none h = (asked_work part request answer e none h.0, tt)
@@ -105,7 +102,7 @@ module _ (r : Asker) (ordinal part : ℕ) where
   rows_work : (ask : Ask) (rows : List (List LogEntry)) (end : Option Abort) → is_end ask ≡ false → AreExchanges r ordinal part ask rows end → AllByRecursion (IsWork part) (joined rows)
   rows_work ask [] end none h = absurd h
   rows_work ask (row ∷ rows) end none h =
-      all_on (IsWork part) row (joined rows) (row_work r.limits.patience part (record { ordinal = ordinal; ask = ask }) row h.0 none h.1)
+      all_joined (IsWork part) row (joined rows) (row_work r.limits.patience part (record { ordinal = ordinal; ask = ask }) row h.0 none h.1)
       (after_work h.0 rows end h.2 (λ subset last more. rows_work (Continue subset last) rows end refl more))
 
   none_last : (found end : Option Abort) (rows : List (List LogEntry)) → rows ≡ [] → end ≡ found → last_failure part found (joined rows) ≡ end

@@ -17,7 +17,7 @@ use Rattle.session_grammar.specs.declared.plans.Sent.{Sent}
 use Rattle.session_grammar.specs.Rows.{is_for}
 use Rattle.run_record.specs.Tiles.{sents_of}
 use Rattle.session_laws.specs.Scaffold.Machine.{sents_of as asked_of}
-use Rattle.session_laws.proofs.Within.{Rise, plans_rise}
+use Rattle.session_laws.proofs.Within.{Rise, plans_rise, rise_from}
 use Rattle.record_text.specs.Scaffold.Reading.{first_failure, last_failure, most_parts, or_else}
 use Rattle.record_text.proofs.Failures.{IsPartOf, IsWork, Tells, last-append, last-others, last-projected, list-tells, single-tells, works-other}
 
@@ -29,11 +29,6 @@ first_among (sent ∷ sents) es = or_else (last_failure sent.part None es) (firs
 or-some : (a b : Option Abort) → IsSome a → or_else a b ≡ a
 or-some None b h = absurd (false≢true h)
 or-some (Some x) b h = refl
-
--- the partitions rise, and one below them isn't among them
-pub rise_within : (low low' high high' : ℕ) (sents : List Sent) → low' ≤ low → high ≤ high' → Rise low high sents → Rise low' high' sents
-rise_within low low' high high' [] l h rise = tt
-rise_within low low' high high' (sent ∷ sents) l h rise = (omega (arith, l, rise.0), omega (arith, h, rise.1), rise_within (sent.part + 1) (sent.part + 1) high high' sents (omega arith) h rise.2)
 
 not_among : (j low high : ℕ) (sents : List Sent) → j < low → Rise low high sents → list_any (λ (sent : Sent). sent.part == j) sents ≡ false
 not_among j low high [] lt rise = refl
@@ -58,7 +53,7 @@ first-range es (suc n) low (sent ∷ sents) rise none = at (λ ss more no. first
         → first_failure es (range_with_len (low + 1) n) ≡ first_among ss es) → (b : Bool) → (sent.part == low) ≡ b → or_else (last_failure low None es) (first_failure es (range_with_len (low + 1) n)) ≡ or_else (last_failure sent.part None es) (first_among sents es)
     at rest true e =
         let same : sent.part ≡ low = eqb-true sent.part low e in
-        let more : Rise (low + 1) (low + 1 + n) sents = rise_within (sent.part + 1) (low + 1) (low + suc n) (low + 1 + n) sents (omega (arith, same)) (omega arith) rise.2 in
+        let more : Rise (low + 1) (low + 1 + n) sents = rise_from (sent.part + 1) (low + 1) (low + suc n) (low + 1 + n) sents (omega (arith, same)) (omega arith) rise.2 in
         ap (λ m. or_else (last_failure m None es) (first_failure es (range_with_len (low + 1) n))) (sym same)
         ∙ ap (or_else (last_failure sent.part None es)) (rest sents more
         (λ j le is. none j (omega (arith, le)) (ap (λ b. b || list_any (λ (s : Sent). s.part == j) sents) (ne_eqb sent.part j (λ is_j. omega (arith, is_j, same, le))) ∙ is)))
@@ -66,7 +61,7 @@ first-range es (suc n) low (sent ∷ sents) rise none = at (λ ss more no. first
         let differs = eqb-false sent.part low e in
         let first = rise.0 in
         let above : low + 1 ≤ sent.part = omega (arith, first, λ (x : low ≡ sent.part). differs (sym x)) in
-        let more : Rise (low + 1) (low + 1 + n) (sent ∷ sents) = (above, omega (arith, rise.1), rise_within (sent.part + 1) (sent.part + 1) (low + suc n) (low + 1 + n) sents (omega arith) (omega arith) rise.2) in
+        let more : Rise (low + 1) (low + 1 + n) (sent ∷ sents) = (above, omega (arith, rise.1), rise_from (sent.part + 1) (sent.part + 1) (low + suc n) (low + 1 + n) sents (omega arith) (omega arith) rise.2) in
         ap (λ x. or_else x (first_failure es (range_with_len (low + 1) n))) (none low (omega arith) (not_among low (low + 1) (low + 1 + n) (sent ∷ sents) (omega arith) more))
         ∙ rest (sent ∷ sents) more (λ j le is. none j (omega (arith, le)) is)
 
@@ -140,7 +135,7 @@ theirs-elsewhere sents (e ∷ es) h j is = (not_for sents e j h.0 is, theirs-els
 module _ (r : Asker) (few : parts_of r.tables ≤ most_parts) (ordinal : ℕ) where
   told : (es : List LogEntry) (sents : List Sent) (end : Option Abort) → Rise 0 (parts_of r.tables) sents → first_among sents es ≡ end → IsElsewhere sents es → first_failure es (range_with_len 0 most_parts) ≡ end
   told es sents end rise among elsewhere =
-      first-range es most_parts 0 sents (rise_within 0 0 (parts_of r.tables) most_parts sents (omega arith) few rise) (λ j le is. last-others j None es (elsewhere j is)) ∙ among
+      first-range es most_parts 0 sents (rise_from 0 0 (parts_of r.tables) most_parts sents (omega arith) few rise) (λ j le is. last-others j None es (elsewhere j is)) ∙ among
 
   lists-told : (R : Sent → List LogEntry → Option Abort → Type 0) → Tells R → (sents : List Sent) (es : List LogEntry) (lists : List (List LogEntry)) (end : Option Abort) → es ≡ joined lists → AllByRecursion IsPartOf sents → Rise 0 (parts_of r.tables) sents
       → InTurn R sents lists end → first_failure es (range_with_len 0 most_parts) ≡ end

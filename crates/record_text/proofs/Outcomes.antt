@@ -28,16 +28,11 @@ use Rattle.record_laws.proofs.Plans.{plan-work}
 use Rattle.record_text.specs.Scaffold.Reading.{drawn, first_failure, last_failure, most_parts, or_else, outcome_by, outcome_of}
 use Rattle.record_text.proofs.Failures.{IsPartOf, end-behind, last-append}
 use Rattle.record_text.proofs.FirstFailures.{part-told}
-
--- the requests of a plan are no Ends
-open_ask : (a : Ask) → is_closing a ≡ false → is_end a ≡ false
-open_ask (ask.EndCommit stamp) h = absurd (false≢true (sym h))
-open_ask ask.EndUndo h = absurd (false≢true (sym h))
-open_ask other h = refl
+use Rattle.run_record.proofs.Closings.{open_is_no_end}
 
 open_sents : (sents : List Sent) → AllByRecursion (λ (sent : Sent). is_closing sent.ask ≡ false) sents → AllByRecursion IsPartOf sents
 open_sents [] h = tt
-open_sents (sent ∷ sents) h = (open_ask sent.ask h.0, open_sents sents h.1)
+open_sents (sent ∷ sents) h = (open_is_no_end sent.ask h.0, open_sents sents h.1)
 
 pub plan-parts : (r : Asker) (s : Statement) → AllByRecursion IsPartOf (sents_of (plan_of r s))
 plan-parts r s = open_sents (sents_of (plan_of r s)) (plan-work r s)

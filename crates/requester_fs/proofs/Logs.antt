@@ -19,6 +19,7 @@ use Rattle.session_grammar.specs.declared.logs.LogEntry.TheVariants.{Asked, Drew
 use Rattle.session_grammar.proofs.Readings.{follows-in_line}
 use Rattle.requester_fs.specs.Asking.{Asking, HasTaken, IsSame, next_at, places_of}
 use Rattle.requester_fs.specs.Asking.{working}
+use Rattle.session_grammar.proofs.LogLists.{none_filled}
 
 -- syncs count up
 pub behind_least : (n : ℕ) (log : List LogEntry) → n ≤ sync_behind n log
@@ -77,10 +78,6 @@ filled s log losses answer =
       answers = ((losses, answer, refl), tt);
       merged = inr ([], refl, (refl, refl));
     }
-
-none_filled : (log : List LogEntry) → IsFilled [] log log
-none_filled log =
-    record { front = log; tail = []; back = []; answered = []; log_is = sym (append-nil log); whole_is = sym (append-nil log); draws_nothing = tt; answers = tt; merged = (refl, refl) }
 
 module _ (script : Script) (number : ℕ) (log : List LogEntry) where
   abbrev at_way : UnderWay → Working

@@ -18,8 +18,9 @@ use Rattle.session_laws.specs.Scaffold.Machine.{Asks, At, Place, Trying, are_sub
 use Rattle.requester_fs.specs.Scaffold.Stages.{AreSuited, IsStage, Stands, doing_of, plan_at, statements_of, trying_of, work_of}
 use Rattle.requester_fs.specs.declared.stages.Stage.{Stage}
 use Rattle.requester_fs.specs.declared.stages.Stand.{Stand}
-use Rattle.requester_fs.proofs.Lists.{all_at, drop_first, drop_none}
+use Rattle.requester_fs.proofs.Lists.{all_at, drop_none}
 use Rattle.requester_fs.proofs.Spelled.{plan_spelled}
+use Rattle.sql_base.proofs.ListFacts.{drop-at}
 
 -- what was planned for the statement at a place
 pub plan_here : (r : Asker) (statements : List Statement) (i : ℕ) (s : Statement) → slice_get statements i ≡ Some s → plan_at r statements i ≡ plan_of r s
@@ -41,7 +42,7 @@ module _ (r : Asker) (t : Trying) (seen : List ℕ) (statements : List Statement
   pub sent_open : (i n : ℕ) (subset : Bool) (sent : Sent) (behind : Place) → slice_get (sents_of (plan_at r statements i)) n ≡ Some sent
       → At t seen (Asks subset sent.part sent.ask r.limits.patience (drop (n + 1) (sents_of (plan_at r statements i))) (drop (i + 1) statements))
       ≡ sents_at r t seen subset (drop n (sents_of (plan_at r statements i))) (drop (i + 1) statements) behind
-  sent_open i n subset sent behind is = sym (ap (λ xs. sents_at r t seen subset xs (drop (i + 1) statements) behind) (drop_first (sents_of (plan_at r statements i)) n sent is))
+  sent_open i n subset sent behind is = sym (ap (λ xs. sents_at r t seen subset xs (drop (i + 1) statements) behind) (drop-at (sents_of (plan_at r statements i)) n sent is))
 
   pub sent_none : (i n : ℕ) (subset : Bool) (behind : Place) → slice_get (sents_of (plan_at r statements i)) n ≡ None
       → sents_at r t seen subset (drop n (sents_of (plan_at r statements i))) (drop (i + 1) statements) behind ≡ behind
@@ -52,7 +53,7 @@ module _ (r : Asker) (t : Trying) (seen : List ℕ) (statements : List Statement
       → statements_at r t seen (drop i statements) next
       ≡ sents_at r t seen (are_subsets (plan_at r statements i)) (drop 0 (sents_of (plan_at r statements i))) (drop (i + 1) statements) (statements_at r t seen (drop (i + 1) statements) next)
   statement_at i s next is =
-      ap (λ ss. statements_at r t seen ss next) (drop_first statements i s is)
+      ap (λ ss. statements_at r t seen ss next) (drop-at statements i s is)
       ∙ ap (λ (p : Plan). sents_at r t seen (are_subsets p) (sents_of p) (drop (i + 1) statements) (statements_at r t seen (drop (i + 1) statements) next)) (sym (plan_here r statements i s is))
 
   -- the statement at this place asks this first, or nothing
@@ -79,14 +80,14 @@ pub first_here : (r : Asker) (ordinal : ℕ) (works : List Work) (from : ℕ) (w
 first_here r ordinal works from w stage is begins =
     let t = trying ordinal r.limits.restart w (drop (from + 1) works) in
     ap (λ (x : Work). At (trying ordinal r.limits.restart x (drop (from + 1) works)) [] (doing_of r x.statements stage)) (work_here works from w is)
-    ∙ begins t (works_at r (ordinal + 1) (drop (from + 1) works)) refl ∙ ap (works_at r ordinal) (sym (drop_first works from w is))
+    ∙ begins t (works_at r (ordinal + 1) (drop (from + 1) works)) refl ∙ ap (works_at r ordinal) (sym (drop-at works from w is))
 
 pub first_past : (r : Asker) (ordinal : ℕ) (works : List Work) (from : ℕ) (w : Work) → slice_get works from ≡ Some w
     → ((t : Trying) (next : Place) → t.work ≡ w → next ≡ statements_at r t [] w.statements next)
     → works_at r (ordinal + 1) (drop (from + 1) works) ≡ works_at r ordinal (drop from works)
 first_past r ordinal works from w is begins =
     let t = trying ordinal r.limits.restart w (drop (from + 1) works) in
-    begins t (works_at r (ordinal + 1) (drop (from + 1) works)) refl ∙ ap (works_at r ordinal) (sym (drop_first works from w is))
+    begins t (works_at r (ordinal + 1) (drop (from + 1) works)) refl ∙ ap (works_at r ordinal) (sym (drop-at works from w is))
 
 pub statements_here : (works : List Work) (n : ℕ) (w : Work) → n < length works → (get_or works n w).statements ≡ (work_of works n).statements
 statements_here works n w lt = ap (λ (x : Work). x.statements) (sym (work_here works n (get_or works n w) (slice_get-get_or works n w lt)))

@@ -1,4 +1,5 @@
-pub mod EntryLists
+pub mod OpeningLengths
+pub mod Closings
 pub mod DrawnLogs
 pub mod TwoSessions
 pub mod CrossedSessions

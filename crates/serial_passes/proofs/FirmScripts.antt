@@ -7,9 +7,9 @@ use Rattle.sql_base.specs.declared.scripts.Script.{Script}
 use Rattle.sql_base.specs.declared.scripts.Work.{Work}
 use Rattle.session_grammar.specs.Follows.{AreAttempts, AreTries, Attempt, IsPart, asker}
 use Rattle.session_grammar.specs.Plans.{Asker}
-use Rattle.record_laws.proofs.Lists.{all_slice}
 use Rattle.run_record.specs.Serial.{AllFirm, IsFirm}
 use Rattle.run_record.specs.declared.records.RunRecord.{RunRecord}
+use Rattle.sql_base.proofs.ListFacts.{all_slice}
 
 module _ (Q : Work → Type 0) (r : Asker) where
   -- the tries of a transaction are of its work

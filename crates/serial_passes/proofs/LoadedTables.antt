@@ -20,10 +20,10 @@ use Rattle.partition_map.specs.Map.{part_of}
 use Rattle.partition_state.specs.State.{State, new_cell, opening}
 use Rattle.run_record.specs.Base.{by_table}
 use Rattle.run_record.specs.Openings.{openings, openings_from, rows_in_part}
-use Rattle.serial_laws.proofs.Opened.{load-records}
 use Rattle.serial_passes.proofs.Givings.{part_within}
 use Rattle.serial_passes.proofs.Placings.{parts_in_order}
 use Rattle.sql_base.proofs.ListFacts.{range-length}
+use Rattle.one_thread.proofs.Loaded.{load-records}
 
 -- the records of these partitions
 abbrev pub opened_views : List State → List (List Keyed)

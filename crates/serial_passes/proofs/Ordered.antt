@@ -26,7 +26,6 @@ use Rattle.session_grammar.specs.Follows.{IsPart, Reads, asker, works_of}
 use Rattle.record_laws.proofs.Beginning.{legal-so_far}
 use Rattle.record_laws.proofs.Finishing.{IsDrawnBy, drawn_by, drawn_where}
 use Rattle.record_laws.proofs.Journals.{find_named}
-use Rattle.record_laws.proofs.Lists.{all_at}
 use Rattle.run_record.specs.Base.{base, base_of, by_table, changes}
 use Rattle.run_record.specs.Legal.{Legal, drawn_in, in_journal}
 use Rattle.run_record.specs.Openings.{by_part, log_of, openings}
@@ -37,6 +36,7 @@ use Rattle.serial_passes.proofs.Finals.{below_last, by_part-agree, final_base}
 use Rattle.serial_passes.proofs.LoadedTables.{opened_tables, opened_views}
 use Rattle.serial_passes.proofs.Serially.{legal_is_serial}
 use Rattle.run_record.proofs.DrawnLogs.{drawn_by_logs}
+use Rattle.sql_base.proofs.ListFacts.{all_in}
 
 -- ---- the journal below a stamp
 
@@ -143,7 +143,7 @@ module _ (script : Script) (kept : RunRecord) (legal : Legal script kept) where
       let from = (drawn_by_logs kept legal.stamps_drawn d).0 there in
       let w = drawn_where script kept [] (legal-so_far script kept legal) d from.0 from.1 in
       let follows = legal.logs_follow.each w.0 w.1 in
-      let named = all_at (IsDrawnBy (asker script w.0) follows.0) d (drawn_in (log_of kept w.0)) w.2 (drawn_by (asker script w.0) (works_of script w.0) (log_of kept w.0) follows.0 follows.1) in
+      let named = all_in (IsDrawnBy (asker script w.0) follows.0) d (drawn_in (log_of kept w.0)) w.2 (drawn_by (asker script w.0) (works_of script w.0) (log_of kept w.0) follows.0 follows.1) in
       let same : d.name.session ≡ w.0 = ap (λ (t : TxnName). t.session) named.2 in
       let a = named.0 in (
         record { drawn = d; attempt = a },

@@ -1,11 +1,17 @@
 -- Logs joined end to end, and lists of one thing.
-use Rattle.std.proofs.Common.{◌≡◌, ℕ, ◌+◌, List, [], ◌∷◌, ◌++◌, Option, Some, None, refl, sym, subst, inl, inr}
+use Rattle.std.proofs.Common.{List, None, Option, Some, [], false, inl, inr, refl, subst, sym, true, ℕ, ◌++◌, ◌+◌, ◌∷◌, ◌≡◌}
 use Rattle.std.proofs.lemmas.List.{append-nil}
 use Rattle.sql_base.specs.declared.outcomes.Abort.{Abort}
 use Rattle.session_grammar.specs.declared.logs.LogEntry.{LogEntry}
 use Rattle.session_grammar.specs.declared.logs.LogEntry.TheVariants.{Asked, Drew}
 use Rattle.session_grammar.specs.Follows.{CountSyncs, InTurn, joined}
 use Rattle.session_grammar.specs.Sessions.{sync_behind}
+use Rattle.session_grammar.specs.declared.logs.Answer.{Answer}
+use Rattle.dp_messages.specs.declared.requests.Ask.{Ask}
+use Rattle.dp_messages.specs.declared.requests.Request.{Request}
+use Rattle.session_grammar.specs.Rows.{IsAsked, is_end, is_for}
+use Rattle.std.proofs.lemmas.Bool.{eq-eqb}
+use Rattle.session_grammar.specs.UnderWay.{IsFilled}
 
 pub CountSyncs-append : (next : ℕ) (xs ys : List LogEntry) → CountSyncs next xs → CountSyncs (sync_behind next xs) ys → CountSyncs next (xs ++ ys)
 CountSyncs-append next [] ys a b = b
@@ -36,3 +42,17 @@ module _ {A : Type 0} (R : A → List LogEntry → Option Abort → Type 0) (x :
 
 pub joined-one : (list : List LogEntry) → joined (list ∷ []) ≡ list
 joined-one list = append-nil list
+
+pub syncs_front : (n : ℕ) (xs ys : List LogEntry) → CountSyncs n (xs ++ ys) → CountSyncs n xs
+syncs_front n [] ys h = tt
+syncs_front n (Asked p s q l a ∷ xs) ys h = (h.0, syncs_front (n + 1) xs ys h.1)
+syncs_front n (Drew m f a ∷ xs) ys h = syncs_front n xs ys h
+
+pub asked_for : (part : ℕ) (request : Request) (answer : Answer) (e : LogEntry) → IsAsked part request answer e → is_for part e ≡ true
+asked_for part request answer (Asked p s q l a) h = eq-eqb p part h.0
+asked_for part request answer (Drew n f a) h = absurd h
+
+-- a log with nothing under way
+pub none_filled : (log : List LogEntry) → IsFilled [] log log
+none_filled log =
+    record { front = log; tail = []; back = []; answered = []; log_is = sym (append-nil log); whole_is = sym (append-nil log); draws_nothing = tt; answers = tt; merged = (refl, refl) }

@@ -90,7 +90,7 @@ abbrev attempt : Work → ℕ → List (List LogEntry) → List LogEntry → Out
 attempt work ordinal parts ending outcome = record { work = work; ordinal = ordinal; parts = parts; ending = ending; outcome = outcome }
 
 -- attempts with the same fields are the same
-same_attempt : (work work' : Work) (ordinal ordinal' : ℕ) (parts parts' : List (List LogEntry)) (ending ending' : List LogEntry) (outcome outcome' : Outcome)
+pub same_attempt : (work work' : Work) (ordinal ordinal' : ℕ) (parts parts' : List (List LogEntry)) (ending ending' : List LogEntry) (outcome outcome' : Outcome)
     → work ≡ work' → ordinal ≡ ordinal' → parts ≡ parts' → ending ≡ ending' → outcome ≡ outcome'
     → attempt work ordinal parts ending outcome ≡ attempt work' ordinal' parts' ending' outcome'
 same_attempt work work' ordinal ordinal' parts parts' ending ending' outcome outcome' w o p e out = cc

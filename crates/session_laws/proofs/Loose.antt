@@ -20,25 +20,14 @@ use Rattle.session_grammar.specs.declared.plans.Sent.{Sent}
 use Rattle.session_grammar.specs.Rows.{IsAsked, IsExchange, is_end, is_for}
 use Rattle.session_laws.proofs.Plans.{Suits}
 use Rattle.session_laws.proofs.Within.{Rise}
+use Rattle.sql_base.proofs.ListFacts.{all_joined}
 
 -- the entry was asked of this partition, and is no End
 abbrev pub IsWork : ℕ → LogEntry → Type 0
 IsWork part (Asked p sync request losses answer) = (p ≡ part) × (is_end request.ask ≡ false)
 IsWork part (Drew name floor answer) = ⊥
 
-pub all_on : (P : LogEntry → Type 0) (xs ys : List LogEntry) → AllByRecursion P xs → AllByRecursion P ys → AllByRecursion P (xs ++ ys)
-all_on P [] ys h k = k
-all_on P (x ∷ xs) ys h k = (h.0, all_on P xs ys h.1 k)
-
-pub all_behind : (P : LogEntry → Type 0) (xs ys : List LogEntry) → AllByRecursion P (xs ++ ys) → AllByRecursion P ys
-all_behind P [] ys h = h
-all_behind P (x ∷ xs) ys h = all_behind P xs ys h.1
-
-pub all_front : (P : LogEntry → Type 0) (xs ys : List LogEntry) → AllByRecursion P (xs ++ ys) → AllByRecursion P xs
-all_front P [] ys h = tt
-all_front P (x ∷ xs) ys h = (h.0, all_front P xs ys h.1)
-
-asked_work : (part : ℕ) (request : Request) (answer : Answer) (e : LogEntry) → is_end request.ask ≡ false → IsAsked part request answer e → IsWork part e
+pub asked_work : (part : ℕ) (request : Request) (answer : Answer) (e : LogEntry) → is_end request.ask ≡ false → IsAsked part request answer e → IsWork part e
 asked_work part request answer (Asked p s q l a) none h = (h.0, ap (λ (x : Request). is_end x.ask) h.1 ∙ none)
 asked_work part request answer (Drew n f a) none h = absurd h
 
@@ -73,7 +62,7 @@ module _ (r : Asker) (ordinal : ℕ) where
   rows_work part ask (row ∷ rows) end none h =
       let first = row_work r.limits.patience part (record { ordinal = ordinal; ask = ask }) row h.0 none h.1 in
       let rest = after_work part h.0 rows end h.2 (λ subset last more. (rows_work part (Continue subset last) rows end refl more).0) in
-      (all_on (IsWork part) row (joined rows) first.0 rest, not_empty row (joined rows) first.1)
+      (all_joined (IsWork part) row (joined rows) first.0 rest, not_empty row (joined rows) first.1)
     where
       not_empty : (xs ys : List LogEntry) → xs ≢ [] → xs ++ ys ≢ []
       not_empty [] ys some is = some refl
@@ -207,18 +196,18 @@ module _ (r : Asker) (ordinal : ℕ) where
       let here : projection (list ++ joined lists) sent ≡ list =
       filter-append (is_for sent.part) list (joined lists) ∙ ap (λ x. x ++ filter (is_for sent.part) (joined lists)) (own sent.part list work) ∙ ap (λ x. list ++ x) (later sent.part (sent.part + 1) (joined lists) (omega arith) rest.from) ∙ append-nil list in
       record {
-        theirs = all_on (λ e. list_any (λ x. is_for x.part e) (sent ∷ sents) ≡ true) list (joined lists) (work_theirs sent sents list work) (theirs_more sent sents (joined lists) rest.theirs);
+        theirs = all_joined (λ e. list_any (λ x. is_for x.part e) (sent ∷ sents) ≡ true) list (joined lists) (work_theirs sent sents list work) (theirs_more sent sents (joined lists) rest.theirs);
         loosely = inl (subst (λ (x : List LogEntry). IsList r ordinal sent x None) (sym here) h.0, loosely_before sent.part (sent.part + 1) high sents list (joined lists) end (omega arith) rise.2 work rest.loosely);
-        from = all_on (IsFrom low) list (joined lists) (work_from sent.part low list le work) (from_lower (sent.part + 1) low (joined lists) (omega (arith, le)) rest.from);
+        from = all_joined (IsFrom low) list (joined lists) (work_from sent.part low list le work) (from_lower (sent.part + 1) low (joined lists) (omega (arith, le)) rest.from);
       }
   lists_loose low high (sent ∷ sents) (list ∷ lists) end rise suits (inr h) =
       let work = (list_work sent list end suits.0 h.0).0 in
       let le = rise.0 in
       let here : projection (list ++ []) sent ≡ list = ap (filter (is_for sent.part)) (append-nil list) ∙ own sent.part list work in
       let loose : LooseFrom low (sent ∷ sents) (list ++ []) end = record {
-        theirs = all_on (λ e. list_any (λ x. is_for x.part e) (sent ∷ sents) ≡ true) list [] (work_theirs sent sents list work) tt;
+        theirs = all_joined (λ e. list_any (λ x. is_for x.part e) (sent ∷ sents) ≡ true) list [] (work_theirs sent sents list work) tt;
         loosely = inr (subst (λ (x : List LogEntry). IsList r ordinal sent x end) (sym here) h.0, h.1, fronts_before sent.part (sent.part + 1) high sents list [] (omega arith) rise.2 work (no_fronts sents));
-        from = all_on (IsFrom low) list [] (work_from sent.part low list le work) tt;
+        from = all_joined (IsFrom low) list [] (work_from sent.part low list le work) tt;
       } in
       subst (λ (x : List (List LogEntry)). LooseFrom low (sent ∷ sents) (list ++ joined x) end) (sym h.2) loose
 

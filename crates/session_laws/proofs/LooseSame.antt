@@ -12,9 +12,10 @@ use Rattle.session_grammar.specs.Follows.{IsList, projection}
 use Rattle.session_grammar.specs.Plans.{Asker}
 use Rattle.session_grammar.specs.declared.plans.Sent.{Sent}
 use Rattle.session_grammar.specs.Rows.{is_end, is_for}
-use Rattle.session_laws.proofs.Loose.{AreFronts, IsFront, IsLoose, IsWork, Loosely, all_behind, all_front, list_work}
+use Rattle.session_laws.proofs.Loose.{AreFronts, IsFront, IsLoose, IsWork, Loosely, list_work}
 use Rattle.session_laws.proofs.Plans.{Suits}
 use Rattle.session_laws.proofs.Rows.{Same, list_same}
+use Rattle.sql_base.proofs.ListFacts.{all_left, all_right}
 
 -- the log goes on with an End
 abbrev pub EndsNext : List LogEntry → Type 0
@@ -84,7 +85,7 @@ module _ (r : Asker) (ordinal : ℕ) where
 
   front_work : (sent : Sent) (list : List LogEntry) → Suits true sent → IsFront r ordinal sent list → AllByRecursion (IsWork sent.part) list
   front_work sent list suits (inl h) = subst (AllByRecursion (IsWork sent.part)) (sym h) tt
-  front_work sent list suits (inr h) = all_front (IsWork sent.part) list h.0 (list_work r ordinal sent (list ++ h.0) h.1 suits h.2).0
+  front_work sent list suits (inr h) = all_left (IsWork sent.part) list h.0 (list_work r ordinal sent (list ++ h.0) h.1 suits h.2).0
 
   fronts_work : (sents : List Sent) (entries : List LogEntry) → AllByRecursion (Suits true) sents → AreFronts r ordinal sents entries → AreWork sents entries
   fronts_work [] entries suits h = tt
@@ -109,7 +110,7 @@ module _ (r : Asker) (ordinal : ℕ) where
       by_test true is a more =
           let split : projection (xs ++ z ∷ zs) sent ≡ projection xs sent ++ z ∷ projection zs sent =
           filter-append (is_for sent.part) xs (z ∷ zs) ∙ ap (λ b. projection xs sent ++ cond b (z ∷ projection zs sent) (projection zs sent)) is in
-          let behind = all_behind (IsWork sent.part) (projection xs sent) (z ∷ projection zs sent) (subst (AllByRecursion (IsWork sent.part)) split work.0) in
+          let behind = all_right (IsWork sent.part) (projection xs sent) (z ∷ projection zs sent) (subst (AllByRecursion (IsWork sent.part)) split work.0) in
           no_end z behind.0 ends
 
   -- no reading goes on behind another
@@ -118,10 +119,10 @@ module _ (r : Asker) (ordinal : ℕ) where
   none_longer sents xs [] us vs e f suits h k t is = refl
   none_longer sents xs (z ∷ zs) us vs None f suits h k t is =
       let none = for_none sents z zs (whole_stays sents xs (z ∷ zs) None f refl h.loosely k.loosely) in
-      let theirs = (all_behind (λ x. list_any (λ sent. is_for sent.part x) sents ≡ true) xs (z ∷ zs) k.theirs).0 in
+      let theirs = (all_right (λ x. list_any (λ sent. is_for sent.part x) sents ≡ true) xs (z ∷ zs) k.theirs).0 in
       absurd (false≢true (sym none ∙ theirs))
   none_longer sents xs (z ∷ zs) us vs (Some abort) f suits h k t is =
-      let theirs = (all_behind (λ x. list_any (λ sent. is_for sent.part x) sents ≡ true) xs (z ∷ zs) k.theirs).0 in
+      let theirs = (all_right (λ x. list_any (λ sent. is_for sent.part x) sents ≡ true) xs (z ∷ zs) k.theirs).0 in
       absurd (theirs_no_end sents xs zs z (zs ++ vs) (loosely_work sents (xs ++ z ∷ zs) f suits k.loosely) theirs (subst EndsNext is t))
 
   same_by : (sents : List Sent) (xs ys zs : List LogEntry) (e f : Option Abort) → ys ≡ xs ++ zs → zs ≡ [] → IsLoose r ordinal sents xs e → IsLoose r ordinal sents ys f → Same xs ys e f

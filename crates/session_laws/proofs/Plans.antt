@@ -1,6 +1,6 @@
 -- What a plan asks as subsets are subsets' requests.
 use Rattle.std.proofs.Common.{◌≡◌, ℕ, ◌+◌, List, [], ◌∷◌, Option, Some, None, Bool, true, false, refl}
-use Rattle.std.specs.Prelude.{map, slice_get, unwrap_or, option_map, if◌then◌else◌}
+use Rattle.std.specs.Prelude.{slice_get, unwrap_or, option_map, if◌then◌else◌}
 use Rattle.std.specs.List.{AllByRecursion}
 use Rattle.sql_base.specs.Keys.{key_eq, common_prefix}
 use Rattle.sql_base.specs.Codes.{sets_code}
@@ -22,15 +22,12 @@ use Rattle.session_grammar.specs.declared.plans.Plan.TheVariants.{Singles, Subse
 use Rattle.session_grammar.specs.declared.plans.Sent.{Sent}
 use Rattle.session_grammar.specs.Rows.{fits, fits_subset}
 use Rattle.session_laws.specs.Scaffold.Machine.{are_subsets, sents_of}
+use Rattle.sql_base.proofs.ListFacts.{all-images}
 
 -- the replies that may come are those of a subset, where it is one
 abbrev pub Suits : Bool → Sent → Type 0
 Suits true sent = (x : PartitionReply) → fits sent.ask x ≡ fits_subset x
 Suits false sent = Unit {0}
-
-all_map : {A : Type 0} (f : A → Sent) (P : Sent → Type 0) → ((x : A) → P (f x)) → (xs : List A) → AllByRecursion P (map f xs)
-all_map f P to [] = tt
-all_map f P to (x ∷ xs) = (to x, all_map f P to xs)
 
 all_single : (sents : List Sent) → AllByRecursion (Suits false) sents
 all_single [] = tt
@@ -44,8 +41,7 @@ module _ (r : Asker) (table : TableDef) where
       → AllByRecursion (Suits true) (begins_in r table place found begin)
   begins_suit place None begin is = tt
   begins_suit place (Some range) begin is =
-      all_map (λ piece. record { part = first_part r place + piece.part; ask = begin (common_prefix range.low range.high) piece.range }) (Suits true)
-      (λ piece. is (common_prefix range.low range.high) piece.range) (cut table range)
+      all-images (Suits true) (λ piece. record { part = first_part r place + piece.part; ask = begin (common_prefix range.low range.high) piece.range }) (λ piece. is (common_prefix range.low range.high) piece.range) (cut table range)
 
   select_suits : (place : ℕ) (access : Access) (predicate : Option Expr) (columns : List ℕ) (found : Option KeyRange) → PlanSuits (select_plan r table place access predicate columns found)
   select_suits place access predicate columns None = tt

@@ -23,6 +23,7 @@ use Rattle.session_grammar.specs.Rows.{IsAsked}
 use Rattle.session_laws.specs.Scaffold.Leading.{answer_of}
 use Rattle.session_laws.proofs.Rows.{Same, asked_answer, first_same, regroup, rest_same, turns_same}
 use Rattle.session_grammar.proofs.Readings.{behind_same}
+use Rattle.session_grammar.proofs.ScanReadings.{same_attempt}
 
 -- two endings and their outcomes are the same
 record SameEnding (xs ys : List LogEntry) (a b : Outcome) : Type 0 where
@@ -123,11 +124,6 @@ module _ (ordinal : ℕ) where
 -- an attempt by its fields
 abbrev attempt : Work → ℕ → List (List LogEntry) → List LogEntry → Outcome → Attempt
 attempt work ordinal parts ending outcome = record { work = work; ordinal = ordinal; parts = parts; ending = ending; outcome = outcome }
-
-same_attempt : (work work' : Work) (ordinal ordinal' : ℕ) (parts parts' : List (List LogEntry)) (ending ending' : List LogEntry) (outcome outcome' : Outcome)
-    → work ≡ work' → ordinal ≡ ordinal' → parts ≡ parts' → ending ≡ ending' → outcome ≡ outcome'
-    → attempt work ordinal parts ending outcome ≡ attempt work' ordinal' parts' ending' outcome'
-same_attempt work work' ordinal ordinal' parts parts' ending ending' outcome outcome' w o p e out = cc
 
 module _ (r : Asker) (work : Work) (ordinal : ℕ) (parts : List (List LogEntry)) where
   abbrev of : List LogEntry → Outcome → Attempt

@@ -11,6 +11,7 @@ use Rattle.session_grammar.specs.Plans.{Asker}
 use Rattle.session_grammar.specs.Rows.{is_for}
 use Rattle.session_laws.specs.Scaffold.Machine.{has_seen, in_order, see}
 use Rattle.session_laws.proofs.Leading.{walk}
+use Rattle.sql_base.proofs.Truths.{or-false}
 
 seen_same : (p q : ℕ) (seen : List ℕ) (b : Bool) → (p == q) ≡ b → has_seen seen p ≡ true → has_seen seen q ≡ (b || has_seen seen q)
 seen_same p q seen true e h = ap (has_seen seen) (sym (eqb-true p q e)) ∙ h
@@ -36,10 +37,6 @@ has_walked q seen (Asked p s x l a ∷ es) =
     has_walked q (see p seen) es ∙ ap (λ b. list_any (is_for q) es || b) (has_see p q seen) ∙ or_swap (list_any (is_for q) es) (p == q) (has_seen seen q)
 has_walked q seen (Drew n f a ∷ es) = has_walked q seen es
 
-or_false : (b : Bool) → (b || false) ≡ b
-or_false true = refl
-or_false false = refl
-
 filter_same : (f g : ℕ → Bool) → ((x : ℕ) → f x ≡ g x) → (xs : List ℕ) → filter f xs ≡ filter g xs
 filter_same f g same [] = refl
 filter_same f g same (x ∷ xs) = ap (λ b. cond b (x ∷ filter f xs) (filter f xs)) (same x) ∙ ap (λ ys. cond (g x) (x ∷ ys) ys) (filter_same f g same xs)
@@ -48,4 +45,4 @@ filter_same f g same (x ∷ xs) = ap (λ b. cond b (x ∷ filter f xs) (filter f
 pub touched_seen : (r : Asker) (a : Attempt) → in_order r (walk [] (joined a.parts)) ≡ touched r a
 touched_seen r a =
     filter_same (has_seen (walk [] (joined a.parts))) (λ part. list_any (is_for part) (joined a.parts))
-    (λ part. has_walked part [] (joined a.parts) ∙ or_false (list_any (is_for part) (joined a.parts))) (range_with_len 0 (parts_of r.tables))
+    (λ part. has_walked part [] (joined a.parts) ∙ or-false (list_any (is_for part) (joined a.parts))) (range_with_len 0 (parts_of r.tables))

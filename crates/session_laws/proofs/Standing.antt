@@ -10,18 +10,13 @@ use Rattle.session_grammar.specs.Follows.{CountSyncs, FollowsInLine}
 use Rattle.session_grammar.specs.Sessions.{sync_behind}
 use Rattle.session_grammar.specs.Plans.{Asker}
 use Rattle.session_grammar.specs.Sessions.{MayCome, entries_kept}
-use Rattle.session_grammar.proofs.LogLists.{CountSyncs-append, CountSyncs-rest}
+use Rattle.session_grammar.proofs.LogLists.{CountSyncs-append, CountSyncs-rest, syncs_front}
 use Rattle.session_laws.specs.Scaffold.Machine.{Draw, Nothing, Over, Place, Send, Task, after, task_at, works_at}
 use Rattle.session_laws.specs.Scaffold.Leading.{BeginsInLine, Does, Leads, Rest, StandsAt, next_behind, next_of}
 use Rattle.session_laws.proofs.Attempts.{attempts_lead}
 use Rattle.session_laws.proofs.Ending.{can_end}
 use Rattle.session_laws.proofs.FoundAttempts.{attempts_found}
 use Rattle.session_laws.proofs.Leading.{Leads-append, Leads-split, one_end}
-
-pub CountSyncs-front : (n : ℕ) (xs ys : List LogEntry) → CountSyncs n (xs ++ ys) → CountSyncs n xs
-CountSyncs-front n [] ys h = tt
-CountSyncs-front n (Asked p s q l a ∷ xs) ys h = (h.0, CountSyncs-front (n + 1) xs ys h.1)
-CountSyncs-front n (Drew m f a ∷ xs) ys h = CountSyncs-front n xs ys h
 
 module _ (r : Asker) (works : List Work) where
   -- a log follows in line just where it leads from the first place to the end
@@ -57,7 +52,7 @@ module _ (r : Asker) (works : List Work) where
   led_where_begins log h =
       let whole = follows-leads (log ++ h.0) h.1 in
       let split = Leads-split r log h.0 (works_at r 1 works) Over whole.led in
-      (split.0, record { syncs = CountSyncs-front 1 log h.0 whole.syncs; led = split.1 })
+      (split.0, record { syncs = syncs_front 1 log h.0 whole.syncs; led = split.1 })
 
   -- each answer that may come leads on
   goes : (sync : ℕ) (place : Place) (task : Task) (answer : Answer) (losses : ℕ) → task_at r place ≡ task → MayCome (next_of sync task) answer losses

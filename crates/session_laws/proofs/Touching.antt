@@ -2,7 +2,7 @@
 use Rattle.std.proofs.Common.{◌≡◌, ◌≤◌, ◌<◌, ◌≢◌, ℕ, zero, suc, ◌+◌, List, [], ◌∷◌, ◌++◌, cond, Option, Some, None, Bool, true, false, refl, ap, sym, ◌∙◌, subst, inl, inr, arith, map}
 use Rattle.std.specs.Prelude.{◌||◌, IsSome, filter}
 use Rattle.std.specs.List.{list_any, range_with_len}
-use Rattle.std.proofs.lemmas.Bool.{eq-eqb, false≢true, or_left, or_right}
+use Rattle.std.proofs.lemmas.Bool.{false≢true, or_left}
 use Rattle.std.proofs.lemmas.List.{append-nil}
 use Rattle.sql_base.specs.Scripts.{parts_of}
 use Rattle.sql_base.specs.declared.outcomes.Abort.{Abort}
@@ -20,26 +20,16 @@ use Rattle.session_grammar.specs.Plans.{Asker, plan_of}
 use Rattle.session_grammar.specs.declared.plans.Plan.{Plan}
 use Rattle.session_grammar.specs.declared.plans.Plan.TheVariants.{Singles, Subsets}
 use Rattle.session_grammar.specs.declared.plans.Sent.{Sent}
-use Rattle.session_grammar.specs.Rows.{IsAsked, IsExchange, is_end, is_for}
+use Rattle.session_grammar.specs.Rows.{IsExchange, is_end, is_for}
 use Rattle.session_laws.specs.Scaffold.Machine.{sents_of}
 use Rattle.session_laws.proofs.LooseSame.{EndsNext, Then}
 use Rattle.session_laws.proofs.Within.{Rise, plans_rise}
+use Rattle.session_grammar.proofs.LogLists.{asked_for}
+use Rattle.sql_base.proofs.ListFacts.{any-push_left, any-push_right}
 
 -- something was asked of a partition that is there
 abbrev Touches : Asker → List LogEntry → Type 0
 Touches r entries = (part : ℕ) × (part < parts_of r.tables) × (list_any (is_for part) entries ≡ true)
-
-any_front : (f : LogEntry → Bool) (xs ys : List LogEntry) → list_any f xs ≡ true → list_any f (xs ++ ys) ≡ true
-any_front f [] ys h = absurd (false≢true h)
-any_front f (x ∷ xs) ys h = by_test (f x) h (any_front f xs ys)
-  where
-    by_test : (b : Bool) → (b || list_any f xs) ≡ true → (list_any f xs ≡ true → list_any f (xs ++ ys) ≡ true) → (b || list_any f (xs ++ ys)) ≡ true
-    by_test true g more = refl
-    by_test false g more = more g
-
-any_behind : (f : LogEntry → Bool) (xs ys : List LogEntry) → list_any f ys ≡ true → list_any f (xs ++ ys) ≡ true
-any_behind f [] ys h = h
-any_behind f (x ∷ xs) ys h = or_right (f x) (list_any f (xs ++ ys)) (any_behind f xs ys h)
 
 any_filter : (f : LogEntry → Bool) (xs : List LogEntry) → filter f xs ≢ [] → list_any f xs ≡ true
 any_filter f [] h = absurd (h refl)
@@ -48,10 +38,6 @@ any_filter f (x ∷ xs) h = by_test (f x) h (any_filter f xs)
     by_test : (b : Bool) → cond b (x ∷ filter f xs) (filter f xs) ≢ [] → (filter f xs ≢ [] → list_any f xs ≡ true) → (b || list_any f xs) ≡ true
     by_test true g more = refl
     by_test false g more = more g
-
-asked_for : (part : ℕ) (request : Request) (answer : Answer) (e : LogEntry) → IsAsked part request answer e → is_for part e ≡ true
-asked_for part request answer (Asked p s q l a) h = eq-eqb p part h.0
-asked_for part request answer (Drew n f a) h = absurd h
 
 row_for : (n part : ℕ) (request : Request) (row rest : List LogEntry) (answer : Answer) → IsExchange n part request row answer → list_any (is_for part) (row ++ rest) ≡ true
 row_for n part request [] rest answer h = absurd h
@@ -77,8 +63,8 @@ module _ (r : Asker) (ordinal : ℕ) where
   lists_touch R to [] [] (Some abort) some rise h = absurd (cc h)
   lists_touch R to [] (list ∷ lists) end some rise h = absurd h
   lists_touch R to (sent ∷ sents) [] end some rise h = absurd h
-  lists_touch R to (sent ∷ sents) (list ∷ lists) end some rise (inl h) = (sent.part, rise.1, any_front (is_for sent.part) list (joined lists) (to sent list None h.0))
-  lists_touch R to (sent ∷ sents) (list ∷ lists) end some rise (inr h) = (sent.part, rise.1, any_front (is_for sent.part) list (joined lists) (to sent list end h.0))
+  lists_touch R to (sent ∷ sents) (list ∷ lists) end some rise (inl h) = (sent.part, rise.1, any-push_left (is_for sent.part) list (joined lists) (to sent list None h.0))
+  lists_touch R to (sent ∷ sents) (list ∷ lists) end some rise (inr h) = (sent.part, rise.1, any-push_left (is_for sent.part) list (joined lists) (to sent list end h.0))
 
   plan_touches : (plan : Plan) (entries : List LogEntry) (end : Option Abort) → IsSome end → Rise 0 (parts_of r.tables) (sents_of plan) → InLineBy r ordinal plan entries end → Touches r entries
   plan_touches (Subsets sents) entries end some rise h = subst (Touches r) (sym h.1) (lists_touch (IsList r ordinal) list_for sents h.0 end some rise h.2)
@@ -108,10 +94,10 @@ module _ (r : Asker) (ordinal : ℕ) where
   parts_touch (s ∷ statements) [] end some h = absurd h
   parts_touch (s ∷ statements) (part ∷ parts) end some (inl h) =
       let rest = parts_touch statements parts end some h.1 in
-      (rest.0, rest.1, any_behind (is_for rest.0) part (joined parts) rest.2)
+      (rest.0, rest.1, any-push_right (is_for rest.0) part (joined parts) rest.2)
   parts_touch (s ∷ statements) (part ∷ parts) end some (inr h) =
       let here = part_touches s part end some h.0 in
-      (here.0, here.1, any_front (is_for here.0) part (joined parts) here.2)
+      (here.0, here.1, any-push_left (is_for here.0) part (joined parts) here.2)
 
 in_range : (f : ℕ → Bool) (part n a : ℕ) → a ≤ part → part < a + n → f part ≡ true → filter f (range_with_len a n) ≢ []
 in_range f part zero a le lt h none = absurd (omega (arith, le, lt))

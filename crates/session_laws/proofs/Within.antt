@@ -2,13 +2,11 @@
 use Rattle.std.proofs.Common.{◌≡◌, ◌≤◌, ◌<◌, ℕ, zero, suc, ◌+◌, List, [], ◌∷◌, length, map, cond, Option, Some, None, Bool, true, false, refl, arith}
 use Rattle.std.specs.Prelude.{slice_get, unwrap_or, option_map, filter_map, if◌then◌else◌}
 use Rattle.std.specs.List.{range_with_len, cons_option}
-use Rattle.std.proofs.lemmas.List.{length-map}
-use Rattle.std.proofs.lemmas.List.Sums.{count_by-le-length}
 use Rattle.sql_base.specs.Codes.{sets_code}
 use Rattle.sql_base.specs.Keys.{key_eq, key_le, key_max, key_min, common_prefix}
 use Rattle.sql_base.specs.Rows.{key_of, packed}
 use Rattle.sql_base.specs.Scripts.{parts_of}
-use Rattle.sql_base.specs.Tables.{first_key, first_keys, table_of}
+use Rattle.sql_base.specs.Tables.{table_of}
 use Rattle.sql_base.specs.declared.expressions.Expr.{Expr}
 use Rattle.sql_base.specs.declared.key_ranges.KeyRange.{KeyRange}
 use Rattle.sql_base.specs.declared.lock_names.Access.{Access}
@@ -25,18 +23,16 @@ use Rattle.session_grammar.specs.declared.plans.Plan.TheVariants.{Singles, Subse
 use Rattle.session_grammar.specs.declared.plans.Sent.{Sent}
 use Rattle.session_laws.specs.Scaffold.Machine.{sents_of}
 use Rattle.sql_base.proofs.RowFacts.{parts_within}
+use Rattle.partition_map.proofs.PartsOfTables.{part_within}
 
 -- the partitions rise from `low` on, and stay below `high`
 abbrev pub Rise : ℕ → ℕ → List Sent → Type 0
 Rise low high [] = Unit {0}
 Rise low high (sent ∷ sents) = (low ≤ sent.part) × (sent.part < high) × Rise (sent.part + 1) high sents
 
-rise_from : (low low' high high' : ℕ) (sents : List Sent) → low' ≤ low → high ≤ high' → Rise low high sents → Rise low' high' sents
+pub rise_from : (low low' high high' : ℕ) (sents : List Sent) → low' ≤ low → high ≤ high' → Rise low high sents → Rise low' high' sents
 rise_from low low' high high' [] l h rise = tt
 rise_from low low' high high' (sent ∷ sents) l h rise = (omega (arith, rise.0), omega (arith, rise.1), rise_from (sent.part + 1) (sent.part + 1) high high' sents (omega arith) h rise.2)
-
-part_within : (table : TableDef) (key : List ℕ) → part_of table key < length table.firsts + 1
-part_within table key = omega (arith, count_by-le-length (λ first. key_le first key) (first_keys table), length-map table.firsts (first_key table))
 
 module _ (r : Asker) (table : TableDef) (there : ℕ) where
   abbrev end : ℕ

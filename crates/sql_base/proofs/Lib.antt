@@ -10,6 +10,7 @@ pub mod FaultsOfKeys
 pub mod Failing
 pub mod Truths
 pub mod ListFacts
+pub mod ListSearches
 pub mod Orderings
 pub mod RowFacts
 pub mod Numbers

@@ -52,7 +52,7 @@ key_eq-same a b e = (bytes_eq-Decides a b).0 (sym (is_eq-slice_cmp a b) ∙ e)
 pub key_lt-differs : (a b : List ℕ) → key_lt a b ≡ true → key_eq a b ≡ false
 key_lt-differs a b h = less-differs (slice_cmp nat_cmp a b) h
 
-reverse-equal : (o : Ordering) → is_lt (ordering_reverse o) ≡ true → is_eq o ≡ false
+pub reverse-equal : (o : Ordering) → is_lt (ordering_reverse o) ≡ true → is_eq o ≡ false
 reverse-equal Less h = absurd (false≢true h)
 reverse-equal Equal h = absurd (false≢true h)
 reverse-equal Greater h = refl

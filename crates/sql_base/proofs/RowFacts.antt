@@ -8,7 +8,8 @@ use Rattle.std.specs.Char.{is_ascii_alphabetic}
 use Rattle.std.specs.Cmp.Lexicographic.{slice_cmp}
 use Rattle.std.specs.List.{cons_option, list_any}
 use Rattle.std.specs.Ordering.{nat_cmp, ordering_then}
-use Rattle.std.specs.Prelude.{IsSome, nat_eq, replicate, slice_get, slice_set, sum_by}
+use Rattle.std.proofs.lemmas.Option.{slice_get-get_or, slice_get-map}
+use Rattle.std.specs.Prelude.{IsSome, nat_eq, option_map, replicate, slice_get, slice_set, sum_by}
 use Rattle.sql_base.proofs.ListFacts.{none-there}
 use Rattle.sql_base.specs.Locks.{same_txn}
 use Rattle.sql_base.specs.Names.{is_name_byte}
@@ -157,3 +158,10 @@ parts_within (t ∷ tables) (suc place) table is =
 
 pub alphabetic_in_name : (b : ℕ) → is_ascii_alphabetic b ≡ true → is_name_byte b ≡ true
 alphabetic_in_name b h = grind (arith, nat_tests)
+
+pub kind_at : (columns : List Column) (places : List ℕ) (i : ℕ) (d : Column) → All (λ c. c < length columns) places → i < length places
+    → slice_get (chosen places (map (λ (c : Column). c.kind) columns)) i ≡ Some (get_or columns (get_or places i 0) d).kind
+kind_at columns places i d h lt =
+    let ks : List ColumnKind = map (λ (c : Column). c.kind) columns in
+    let all : All (λ c. c < length ks) places = kinds_within columns places h in
+    chosen_at ks places i all lt ∙ slice_get-map (λ (c : Column). c.kind) columns (get_or places i 0) ∙ ap (option_map (λ (c : Column). c.kind)) (slice_get-get_or columns (get_or places i 0) d (h i 0 lt))

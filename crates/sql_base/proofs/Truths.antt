@@ -1,9 +1,9 @@
 -- Facts of truth values, tests and numbers that several crates need.
-use Rattle.std.proofs.Common.{◌&&◌, ◌*◌, ◌+◌, ◌-◌, ◌<◌, ◌||◌, ◌≡◌, ◌≤◌, Bool, Some, arith, cond, eqb, false, max, min, not, refl, suc, sym, true, ℕ}
+use Rattle.std.proofs.Common.{◌&&◌, ◌*◌, ◌+◌, ◌-◌, ◌<◌, ◌||◌, ◌≡◌, ◌≤◌, Bool, None, Option, Some, arith, cond, eqb, false, max, min, not, refl, suc, sym, true, ℕ}
 use Rattle.std.proofs.Math.Nat.{mul-le-mul_right}
 use Rattle.std.proofs.lemmas.Bool.{false≢true}
 use Rattle.std.proofs.lemmas.Bool.Decides.{nat_tests}
-use Rattle.std.specs.Prelude.{nat_le, nat_lt}
+use Rattle.std.specs.Prelude.{is_some, nat_le, nat_lt}
 
 pub some-same : {A : Type 0} (x y : A) → Some x ≡ Some y → x ≡ y
 some-same x y e = cc
@@ -80,3 +80,48 @@ not-is false h = refl
 
 pub plus-none : (n m : ℕ) → n + (0 + m) ≡ n + m
 plus-none n m = omega arith
+
+pub and_both : (a b : Bool) → a ≡ true → b ≡ true → (a && b) ≡ true
+and_both a b h k = rw h k
+
+pub both_hold : (a b : Bool) → (a && b) ≡ true → (a ≡ true) × (b ≡ true)
+both_hold true b h = (refl, h)
+both_hold false b h = absurd (false≢true h)
+
+pub neither_holds : (a b : Bool) → (a || b) ≡ false → (a ≡ false) × (b ≡ false)
+neither_holds true b h = absurd cc
+neither_holds false b h = (refl, h)
+
+pub or-true : (b : Bool) → (b || true) ≡ true
+or-true true = refl
+or-true false = refl
+
+pub or-false : (b : Bool) → (b || false) ≡ b
+or-false true = refl
+or-false false = refl
+
+pub and-true : (b : Bool) → (b && true) ≡ b
+and-true true = refl
+and-true false = refl
+
+pub and-false : (b : Bool) → (b && false) ≡ false
+and-false true = refl
+and-false false = refl
+
+pub or-first : (a b : Bool) → a ≡ true → (a || b) ≡ true
+or-first true b h = refl
+or-first false b h = absurd (false≢true h)
+
+pub either : (a b : Bool) {X : Type 0} → (a ≡ true → X) → (b ≡ true → X) → (a || b) ≡ true → X
+either true b first second h = first refl
+either false b first second h = second h
+
+pub le-is_true : (a b : ℕ) → a ≤ b → nat_le a b ≡ true
+le-is_true a b h = grind (arith, nat_tests)
+
+pub lt-not_le : (a b : ℕ) → b < a → nat_le a b ≡ false
+lt-not_le a b h = grind (arith, nat_tests)
+
+pub none-is : {A : Type 0} (o : Option A) → is_some o ≡ false → o ≡ None
+none-is None h = refl
+none-is (Some x) h = absurd (false≢true (sym h))

@@ -23,7 +23,7 @@ use Rattle.statement_draft.specs.declared.kinds.Kind.TheVariants as kind
 use Rattle.statement_draft.specs.declared.kinds.Operand.{Operand}
 use Rattle.statement_draft.specs.declared.kinds.Op.{Op}
 use Rattle.statement_draft.specs.declared.kinds.Op.TheVariants as op
-use Rattle.sql_base.proofs.Truths.{max-itself}
+use Rattle.sql_base.proofs.Truths.{max-itself, some-same}
 
 -- depth counted up to 33 on both sides
 deep : (a b m n : ℕ) → a ≡ min 33 m → b ≡ min 33 n → min 32 (max a b) + 1 ≡ min 33 (max m n + 1)
@@ -163,9 +163,6 @@ number_describes table n e h =
     let fits = passed (nat_lt n (2 ^ 63)) (expr.Number (pos n)) e h in
     subst (Describes table (number_operand n)) (picked (nat_lt n (2 ^ 63)) (expr.Number (pos n)) e h) (of_number table (number_operand n) (pos n) fits refl refl refl)
 
-same_tree : (t e : Expr) → Some t ≡ Some e → t ≡ e
-same_tree t e h = cc
-
 negated : (m : ℕ) → m ≤ 2 ^ 63 → in_i64 (neg_ℤ (pos m)) ≡ true
 negated zero h = refl
 negated (suc m) h = lt-ltb m (2 ^ 63) (omega arith)
@@ -175,7 +172,7 @@ negative_fits n = negated (min n (2 ^ 63)) (omega arith)
 
 pub negative_describes : (table : TableDef) (n : ℕ) → DescribesItsTree table (negative_operand n)
 negative_describes table n e h =
-    subst (Describes table (negative_operand n)) (same_tree (expr.Number (negative n)) e h)
+    subst (Describes table (negative_operand n)) (some-same (expr.Number (negative n)) e h)
     (of_number table (negative_operand n) (negative n) (negative_fits n) refl refl refl)
 
 text_kind : (b c : Bool) (k : Option base.Kind) → b ≡ true → c ≡ true → (if b && c then k else None) ≡ k
@@ -191,7 +188,7 @@ two_more text = omega arith
 
 pub text_describes : (table : TableDef) (text : List ℕ) → nat_le (length text) 255 ≡ true → is_printable text ≡ true → DescribesItsTree table (text_operand text)
 text_describes table text short printable e h =
-    subst (Describes table (text_operand text)) (same_tree (expr.Text text) e h) (record {
+    subst (Describes table (text_operand text)) (some-same (expr.Text text) e h) (record {
       typed = fold-Text _ (kind_step table) text ∙ text_kind (nat_le (length text) 255) (is_printable text) (Some (base.OfText (length text))) short printable;
       depth = ap (min 33) (sym (fold-Text _ depth_step text));
       code = text_code (length text) ∙ ap (min 8193) (two_more text ∙ ap length (sym (fold-Text _ code_step text)));
@@ -208,7 +205,7 @@ kind_of_place (Some column) = kind_of_one column.kind
 pub name_describes : (table : TableDef) (place : Option ℕ) → DescribesItsTree table (name_operand table.columns place)
 name_describes table None e h = absurd (cc)
 name_describes table (Some c) e h =
-    subst (Describes table (name_operand table.columns (Some c))) (same_tree (expr.Column c) e h) (record {
+    subst (Describes table (name_operand table.columns (Some c))) (some-same (expr.Column c) e h) (record {
       typed = fold-Column _ (kind_step table) c ∙ ap base.kind_of_column (slice_get-map (λ (column : Column). column.kind) table.columns c) ∙ kind_of_place (slice_get table.columns c);
       depth = ap (min 33) (sym (fold-Column _ depth_step c));
       code = ap (λ bytes. min 8193 (length bytes)) (sym (fold-Column _ code_step c));

@@ -19,7 +19,7 @@ use Rattle.statement_grammar.specs.declared.symbols.Symbol.{Symbol}
 use Rattle.statement_grammar.specs.declared.symbols.Symbol.TheVariants as symbols
 use Rattle.statement_grammar.proofs.Fewest.{fixed_word, a_name, a_number, fewest, completion, opens, absorbs, absorbs_at, first_word, Safe}
 use Rattle.statement_grammar.proofs.Safety.{behind_safe}
-use Rattle.sql_base.proofs.Truths.{first_two, neither, or_left, or_right}
+use Rattle.sql_base.proofs.Truths.{first_two, neither, or_left, or_right, some-same}
 
 -- safety of lists that are put together
 
@@ -45,9 +45,6 @@ safe-append x (symbols.Part p ∷ m) s hm hs = (
   safe-append x m s hm.1 hs,
 )
 safe-append x (symbols.Ended e ∷ m) s hm hs = safe-append x m s hm hs
-
-some_is : (a b : List Symbol) → Some a ≡ Some b → a ≡ b
-some_is a b e = cc
 
 rest_is : (t u : Taken) → Some t ≡ Some u → t.rest ≡ u.rest
 rest_is t u e = cc
@@ -89,7 +86,7 @@ led_by s w ws None r e = absurd (cc)
 
 leads_safe : (x : Option Word) (ws : List Word) (s r : List Symbol) → Safe x s → leads s ws ≡ Some r → Safe x r
 unfolding leads
-leads_safe x [] s r hs e = subst (Safe x) (some_is s r e) hs
+leads_safe x [] s r hs e = subst (Safe x) (some-same s r e) hs
 leads_safe x (w ∷ ws) s r hs e = let t = led_by s w ws (step s w) r e in leads_safe x ws t.0.rest r (advance_safe x [] s w hs t.0 t.1) t.2
 
 -- the ends that were passed don't matter
@@ -137,7 +134,7 @@ Passes s r ws = Fill r ws → Fill s ws
 
 passes_nothing : (s r : List Symbol) → (finish [] s).whole ≡ (finish [] r).whole → Passes s r []
 unfolding leads
-passes_nothing s r h fill = record { rest = s; lead = refl; whole = h ∙ ap (λ x. (finish [] x).whole) (some_is r fill.rest fill.lead) ∙ fill.whole }
+passes_nothing s r h fill = record { rest = s; lead = refl; whole = h ∙ ap (λ x. (finish [] x).whole) (some-same r fill.rest fill.lead) ∙ fill.whole }
 
 passes_word : (s r : List Symbol) (w : Word) (ws : List Word) → step s w ≡ step r w → Passes s r (w ∷ ws)
 unfolding leads
@@ -366,7 +363,7 @@ filled (symbols.Ended e ∷ s) hs = passes_end e s (completion s) (filled s hs)
 
 leads-append : (ws more : List Word) (s r : List Symbol) → leads s ws ≡ Some r → leads s (ws ++ more) ≡ leads r more
 unfolding leads
-leads-append [] more s r e = ap (λ r. leads r more) (some_is s r e)
+leads-append [] more s r e = ap (λ r. leads r more) (some-same s r e)
 leads-append (w ∷ ws) more s r e = let t = led_by s w ws (step s w) r e in
     ap (option_and_then (λ t. leads t.rest (ws ++ more))) t.1 ∙ leads-append ws more t.0.rest r t.2
 

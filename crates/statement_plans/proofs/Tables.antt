@@ -26,12 +26,6 @@ parts_more (t ∷ tables) (suc place) table is =
     let all : parts_of (t ∷ take (place + 1) tables) ≡ parts_of (t ∷ take place tables) + (length table.firsts + 1) = omega (arith, more, long, front) in
     ap (λ n. parts_of (take n (t ∷ tables))) one ∙ all
 
--- a list is longer than the place of what it has there
-pub place_lt : {A : Type 0} (xs : List A) (i : ℕ) (x : A) → slice_get xs i ≡ Some x → i < length xs
-place_lt [] i x is = absurd (cc is)
-place_lt (y ∷ ys) zero x is = omega arith
-place_lt (y ∷ ys) (suc i) x is = omega (arith, place_lt ys i x is)
-
 -- the values of a SET list are well typed
 each_typed : (table : TableDef) (sets : List Assign) → AllByRecursion (IsAssign table) sets → AllByRecursion (λ (set : Assign). (kind : Kind) × IsExpr table kind set.value) sets
 each_typed table [] all = tt

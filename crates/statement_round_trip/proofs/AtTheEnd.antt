@@ -11,8 +11,8 @@ use Rattle.statement_grammar.specs.declared.symbols.Symbol.TheVariants as symbol
 use Rattle.statement_draft.specs.Judging.{all_ended, at_the_end, end_read, ended, read_from}
 use Rattle.statement_draft.specs.declared.draft.Draft.{Draft}
 use Rattle.statement_round_trip.specs.Onward.{Reads}
-use Rattle.statement_round_trip.specs.Rereading.{words_in}
 use Rattle.statement_round_trip.proofs.Onward.{end_before, skip}
+use Rattle.statement_round_trip.proofs.Tokens.{no_tokens}
 
 abbrev with_ends : List End → Finish → Finish
 with_ends es f = record { ends = es ++ f.ends; whole = f.whole }
@@ -65,10 +65,6 @@ skip_of_nothing p s d at empty =
 all_read : (d : Draft) (at : ℕ) → read_from [] d [] at ≡ d
 unfolding read_from end_read all_ended finish
 all_read d at = refl
-
-no_tokens : (tokens : List Token) → words_in tokens ≡ [] → tokens ≡ []
-no_tokens [] h = refl
-no_tokens (t ∷ ts) h = absurd (cc (h))
 
 -- the part doesn't begin here
 abbrev pub Skips : Part → List Word → Type 0

@@ -36,7 +36,7 @@ use Rattle.statement_draft.specs.declared.faults.Reason.TheVariants.{OverLimit}
 use Rattle.statement_draft.specs.declared.kinds.Operator.TheVariants as operator
 use Rattle.statement_rules.proofs.Demands.{demands, weaker}
 use Rattle.statement_round_trip.proofs.Tallies.{load_balances, load_row_balances, session_balances, tally, Balanced, Even, Same}
-use Rattle.statement_round_trip.proofs.Tests.{both_true}
+use Rattle.sql_base.proofs.Truths.{both_hold}
 
 -- ---- symbols that leave the tally as it is
 
@@ -269,16 +269,16 @@ inner_demands : (s : List Symbol) → AreInner s → (d e : Draft) → Same d e 
 inner_demands [] all d e h = h
 inner_demands (symbols.Fixed f ∷ s) all d e h = inner_demands s all d e h
 inner_demands (symbols.Name role ∷ s) all d e h =
-    let both = both_true (is_inner (symbols.Name role)) (list_all is_inner s) all in
+    let both = both_hold (is_inner (symbols.Name role)) (list_all is_inner s) all in
     λ name at is clean. inner_demands s both.1 d (name_came role name at e) (name_same role name at e both.0 ∙ h)
 inner_demands (symbols.Number role ∷ s) all d e h =
-    let both = both_true (is_inner (symbols.Number role)) (list_all is_inner s) all in
+    let both = both_hold (is_inner (symbols.Number role)) (list_all is_inner s) all in
     λ n at fits clean. inner_demands s both.1 d (number_came role n at e) (number_same role n at e both.0 ∙ h)
 inner_demands (symbols.Part p ∷ s) all d e h =
-    let both = both_true (is_inner_part p) (list_all is_inner s) all in
+    let both = both_hold (is_inner_part p) (list_all is_inner s) all in
     (tt, λ g post. inner_demands s both.1 d g (as_first (is_inner_part p) (Same e g) _ both.0 post ∙ h))
 inner_demands (symbols.Ended x ∷ s) all d e h =
-    let both = both_true (is_inner (symbols.Ended x)) (list_all is_inner s) all in
+    let both = both_hold (is_inner (symbols.Ended x)) (list_all is_inner s) all in
     λ clean. inner_demands s both.1 d (ended x e) (end_same x e both.0 ∙ h)
 
 pub inner_begins : (p : Part) → is_inner_part p ≡ true → (w : Word) (at : ℕ) (more : List Symbol) (d : Draft) → behind p w ≡ Some more → demands Pre Post more (Post p d) (part_came p w at d)

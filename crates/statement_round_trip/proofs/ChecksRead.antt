@@ -36,9 +36,10 @@ use Rattle.statement_round_trip.specs.Onward.{Reads}
 use Rattle.statement_round_trip.specs.Rereading.{summary}
 use Rattle.statement_round_trip.proofs.AssignsRead.{value_known, value_reads, Value}
 use Rattle.statement_round_trip.proofs.ColumnsRead.{open_steps}
-use Rattle.statement_round_trip.proofs.Ends.{as_truth, expressions_end, sooner_alone}
+use Rattle.statement_round_trip.proofs.Ends.{expressions_end, sooner_alone}
 use Rattle.statement_round_trip.proofs.Onward.{end_before, from, skip, spelled, step, StepsTo}
 use Rattle.statement_round_trip.proofs.RowsRead.{close_steps}
+use Rattle.statement_round_trip.proofs.Typed.{as_truth}
 
 -- a table whose columns and key have been read
 abbrev pub front_of : TableDef → List Expr → ℕ → List ℕ → ℕ → ℕ → ℕ → NewTable

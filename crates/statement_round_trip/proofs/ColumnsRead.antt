@@ -34,9 +34,9 @@ use Rattle.statement_printer.specs.Printing.{declared_words, key, kind_words, na
 use Rattle.statement_round_trip.specs.Onward.{Reads}
 use Rattle.statement_round_trip.proofs.Naming.{not_long}
 use Rattle.statement_round_trip.proofs.NamesApart.{all_new_more, names_differ, unnamed, AllNew}
-use Rattle.statement_round_trip.proofs.Apart.{map_more}
 use Rattle.statement_round_trip.proofs.Onward.{from, spelled, step, StepsTo}
 use Rattle.statement_round_trip.proofs.RowsRead.{close_steps}
+use Rattle.sql_base.proofs.ListFacts.{map-push}
 
 -- a table whose columns are being read: the last one's name and its place, and the bytes of a row
 abbrev pub columned : List ℕ → List Column → List ℕ → ℕ → ℕ → NewTable
@@ -181,7 +181,7 @@ behind_first before column rest bytes h =
     let long = length-append before (column ∷ []) in
     let sum : bytes_of_columns (column ∷ rest) ≡ width column.kind + bytes_of_columns rest = sum_by-cons (λ (column : Column). width column.kind) column rest in
     let apart = names_differ column.name (names_of rest) h.differ in
-    let moved : names_of (before ++ column ∷ []) ≡ names_of before ++ column.name ∷ [] = map_more (λ (column : Column). column.name) before column in
+    let moved : names_of (before ++ column ∷ []) ≡ names_of before ++ column.name ∷ [] = map-push (λ (column : Column). column.name) before column in
     record {
       few = omega (arith, long, h.few);
       narrow = omega (arith, sum, h.narrow);

@@ -16,6 +16,7 @@ use Rattle.statement_draft.proofs.Summaries.{binary_describes, name_describes, n
 use Rattle.statement_round_trip.specs.Rereading.{summary, summary_step, int_operand}
 use Rattle.statement_round_trip.proofs.Leaves.{both_of_arith, both_of_compare, both_of_truths}
 use Rattle.statement_round_trip.proofs.ExpressionsRead.{Cases, expr_induction}
+use Rattle.sql_base.proofs.Truths.{neither}
 
 -- a well-typed expression is described by what the reader knows of it
 abbrev Described : TableDef → Expr → Type 0
@@ -64,13 +65,9 @@ module _ (table : TableDef) where
 pub summary_describes : (table : TableDef) (e : Expr) (k : Kind) → kind_of table e ≡ Some k → DescribesItsTree table (summary table.columns e)
 summary_describes table e k h = expr_induction (Described table) (described table) e (ap is_some h)
 
-no_or : (a b : Bool) → a ≡ false → b ≡ false → a || b ≡ false
-no_or false b h k = k
-no_or true b h k = absurd (cc (h))
-
 counted : (most d m : ℕ) → d ≡ min (most + 1) m → m ≤ most → nat_lt most d ≡ false
 counted most d m e h = grind (arith, nat_tests, e, h)
 
 pub small : (table : TableDef) (e : Expr) (x : Operand) (k : Kind) → IsExpr table k e → DescribesItsTree table x → x.tree ≡ Some e → nat_lt 32 x.depth || nat_lt 8192 x.code ≡ false
 small table e x k is d tree = let told = d e tree in
-    no_or (nat_lt 32 x.depth) (nat_lt 8192 x.code) (counted 32 x.depth (depth_of e) told.depth is.depth) (counted 8192 x.code (length (code_of e)) told.code is.code)
+    neither (nat_lt 32 x.depth) (nat_lt 8192 x.code) (counted 32 x.depth (depth_of e) told.depth is.depth) (counted 8192 x.code (length (code_of e)) told.code is.code)

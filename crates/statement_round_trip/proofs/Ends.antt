@@ -31,7 +31,7 @@ use Rattle.statement_grammar.specs.Grammar.{behind}
 use Rattle.statement_round_trip.proofs.Leaves.{typed_leaves}
 use Rattle.statement_round_trip.proofs.Naming.{columns_named}
 use Rattle.statement_round_trip.proofs.Summaries.{summaries_tell}
-use Rattle.statement_round_trip.proofs.Typed.{typed_for_reader}
+use Rattle.statement_round_trip.proofs.Typed.{as_truth, typed_for_reader}
 use Rattle.statement_round_trip.proofs.Wholes.{wholes_read_back}
 
 -- what a WHERE is made of
@@ -73,12 +73,6 @@ expressions_end = record {
   access = record { product = refl; sum = refl; compare = refl; both = refl; either = refl };
   filter = record { product = refl; sum = refl; compare = refl; both = refl; either = refl };
 }
-
-pub as_truth : (x : Option Kind) → option_map meant x ≡ Some base.OfTruth → x ≡ Some kind.Truth
-as_truth None h = absurd (cc (h))
-as_truth (Some kind.Truth) h = refl
-as_truth (Some kind.Number) h = absurd (cc (h))
-as_truth (Some (kind.Text n)) h = absurd (cc (h))
 
 where_begins : behind parts.Where (key keys.Where) ≡ Some where_list
 unfolding behind

@@ -1,7 +1,6 @@
 -- Printed expressions lead the reader back to their trees.
 use Rattle.std.proofs.Common.{◌≡◌, ℕ, suc, ◌+◌, max, ℤ, pos, negsuc, List, [], ◌∷◌, ◌++◌, Bool, true, false, Option, Some, None, refl, sym, ap, subst, arith, ◌&&◌}
-use Rattle.std.proofs.lemmas.Bool.Decides.{nat_tests}
-use Rattle.std.specs.Prelude.{slice_get, is_some, not, nat_lt, ◌^◌}
+use Rattle.std.specs.Prelude.{slice_get, is_some, not, ◌^◌}
 use Rattle.sql_base.specs.Kinds.{depth_of, depth_step}
 use Rattle.sql_base.specs.declared.expressions.ArithOp.{ArithOp}
 use Rattle.sql_base.specs.declared.expressions.CompareOp.{CompareOp}
@@ -16,7 +15,6 @@ use Rattle.statement_words.specs.declared.keywords.Keyword.TheVariants as keys
 use Rattle.statement_words.specs.declared.tokens.Sign.TheVariants as signs
 use Rattle.statement_words.specs.declared.tokens.Word.{Word}
 use Rattle.statement_words.specs.declared.tokens.Word.TheVariants as word
-use Rattle.statement_draft.specs.Names.{is_wide}
 use Rattle.statement_draft.specs.Expressions.{of_truths, op_kind, is_wrong, binary, negation, number_operand, negative_operand, text_operand, name_operand}
 use Rattle.statement_draft.specs.declared.kinds.Kind.{Kind}
 use Rattle.statement_draft.specs.declared.kinds.Kind.TheVariants as kind
@@ -29,7 +27,8 @@ use Rattle.statement_round_trip.specs.Rereading.{summary, summary_step, int_oper
 use Rattle.statement_printer.proofs.Joining.{words_of_pos}
 use Rattle.statement_round_trip.proofs.Operands.{Stands, stands_inside, stands_name, stands_negative, stands_number, stands_text, whole_leaf}
 use Rattle.statement_round_trip.proofs.Levels.{Level, and_level, arith_level, or_level, relation_level, whole_binary, whole_not}
-use Rattle.statement_round_trip.proofs.Tests.{both_true}
+use Rattle.sql_base.proofs.Truths.{both_hold}
+use Rattle.statement_round_trip.proofs.RowsRead.{narrow}
 
 record Back (columns : List Column) (q : Printed) (depth : ℕ) (x : Operand) : Type 0 where
   pub whole : ReadAs columns q.words depth x
@@ -80,7 +79,7 @@ typed_not a h = let t = typed_binary op.And a a h in (t.0, t.2)
 back_binary : (columns : List Column) (w : Word) (o : Op) → Level w o → (la lb : Bool) (qa qb : Printed) (m n : ℕ) (x y : Operand) → Gives columns la qa m x → Gives columns lb qb n y
     → Gives columns (la && lb) (between w qa qb) (max m n + 1) (binary o x y)
 back_binary columns w o level la lb qa qb m n x y left right leaves typed =
-    let l = both_true la lb leaves in
+    let l = both_hold la lb leaves in
     let t = typed_binary o x.kind y.kind typed in
     let whole = whole_binary columns w o level (operand qa) (operand qb) m n (max m n + 1) x y (left l.0 t.0).stands (right l.1 t.1).stands (omega arith) (omega arith) t.2 in
     record { whole = whole; stands = stands_inside columns (operand qa ++ w ∷ operand qb) (max m n + 1) (binary o x y) whole }
@@ -92,13 +91,10 @@ back_not columns l q m x given leaves typed =
     let whole = whole_not columns (operand q) m (m + 1) x (given leaves t.0).stands (omega arith) t.1 in
     record { whole = whole; stands = stands_inside columns (key keys.Not ∷ operand q) (m + 1) (negation x) whole }
 
-not_wide : (n : ℕ) → nat_lt n (2 ^ 63) ≡ true → is_wide n ≡ false
-not_wide n h = grind (arith, nat_tests)
-
 back_int : (columns : List Column) (n : ℤ) → Gives columns (in_i64 n) (leaf (int_words n)) 1 (int_operand n)
 back_int columns (pos n) leaves typed =
     subst (λ (words : List Word). Back columns (leaf words) 1 (number_operand n)) (sym (words_of_pos n))
-    (back_leaf columns (word.Number n ∷ []) (number_operand n) (λ depth. stands_number columns n depth (not_wide n leaves)))
+    (back_leaf columns (word.Number n ∷ []) (number_operand n) (λ depth. stands_number columns n depth (narrow n leaves)))
 back_int columns (negsuc n) leaves typed =
     back_leaf columns (sign signs.Minus ∷ word.Number (suc n) ∷ []) (negative_operand (suc n)) (λ depth. stands_negative columns (suc n) depth)
 

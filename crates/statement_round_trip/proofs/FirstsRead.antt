@@ -33,9 +33,9 @@ use Rattle.statement_printer.specs.Printing.{first_words, firsts_words, key, lit
 use Rattle.statement_round_trip.specs.Onward.{Reads}
 use Rattle.statement_round_trip.proofs.KeysRead.{key_steps}
 use Rattle.statement_round_trip.proofs.Onward.{end_before, from, skip, spelled, step, StepsTo}
-use Rattle.statement_round_trip.proofs.Tests.{both_true}
 use Rattle.statement_round_trip.proofs.RowsFit.{at_front, one_longer}
 use Rattle.statement_round_trip.proofs.RowsRead.{new_row, row_reads, AllFit, Fits, IsShort, PrintsAs}
+use Rattle.sql_base.proofs.Truths.{both_hold}
 
 -- ---- literals
 
@@ -50,7 +50,7 @@ fits_leading Int (value.Int n) h = (record { fault = refl; fills = refl }, h)
 fits_leading Int (value.Text text) h = absurd (cc (h))
 fits_leading (Char n) (value.Int m) h = absurd (cc (h))
 fits_leading (Char n) (value.Text text) h =
-    let most = (both_true (nat_le (length text) n) (is_printable text) h).0 in
+    let most = (both_hold (nat_le (length text) n) (is_printable text) h).0 in
     let short : nat_lt n (length text) ≡ false = grind (arith, nat_tests, most) in
     (record { fault = ap (λ (b : Bool). cond b (Some TextTooLong) None) short; fills = refl }, tt)
 
@@ -59,7 +59,7 @@ fit_behind : (front rest : List ColumnKind) (before vs : List Value) → length 
 fit_behind front rest before [] same h = tt
 fit_behind front [] before (v ∷ vs) same h = absurd (cc (h))
 fit_behind front (k ∷ rest) before (v ∷ vs) same h =
-    let both = both_true (is_literal_of k v) (are_leading rest vs) h in
+    let both = both_hold (is_literal_of k v) (are_leading rest vs) h in
     let f = fits_leading k v both.0 in
     let long : length (front ++ k ∷ []) ≡ length (before ++ v ∷ []) = one_longer front k ∙ ap suc same ∙ sym (one_longer before v) in
     let more = fit_behind (front ++ k ∷ []) rest (before ++ v ∷ []) vs long both.1 in (

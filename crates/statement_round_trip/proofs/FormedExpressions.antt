@@ -20,7 +20,7 @@ use Rattle.statement_printer.specs.Printing.{arith_sign, between, compare_sign, 
 use Rattle.statement_round_trip.proofs.FormedParts.{formed_both, formed_inside, formed_int, AreFormed}
 use Rattle.statement_round_trip.proofs.Leaves.{both_of_arith, both_of_compare, both_of_truths, chosen_some, column_there, Both}
 use Rattle.statement_round_trip.proofs.ExpressionsRead.{expr_induction, Cases}
-use Rattle.statement_round_trip.proofs.Tests.{both_true}
+use Rattle.sql_base.proofs.Truths.{both_hold}
 
 formed_operand : (words : List Word) (is_operator : Bool) → AreFormed words → AreFormed (operand (record { words = words; is_operator = is_operator }))
 formed_operand words true h = formed_inside words h
@@ -31,7 +31,7 @@ formed_between op a b o h k =
     formed_both (operand a) (op ∷ operand b) (formed_operand a.words a.is_operator h) (o, formed_operand b.words b.is_operator k)
 
 formed_text : (text : List ℕ) → (nat_le (length text) 255 && is_printable text) ≡ true → AreFormed (word.Text text ∷ [])
-formed_text text h = let both = both_true (nat_le (length text) 255) (is_printable text) h in ((short (length text) both.0, both.1), tt)
+formed_text text h = let both = both_hold (nat_le (length text) 255) (is_printable text) h in ((short (length text) both.0, both.1), tt)
   where
     short : (n : ℕ) → nat_le n 255 ≡ true → n ≤ 255
     short n h = grind (arith, nat_tests, h)

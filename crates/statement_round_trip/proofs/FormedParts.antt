@@ -17,8 +17,8 @@ use Rattle.statement_words.specs.declared.tokens.Sign.TheVariants as signs
 use Rattle.statement_words.specs.declared.tokens.Word.{Word}
 use Rattle.statement_printer.proofs.Joining.{words_of_pos}
 use Rattle.statement_printer.specs.Printing.{column_words, first_words, inside, int_words, kept, literal_words, name_of, row_words, sign, value_words, with_commas}
-use Rattle.statement_round_trip.proofs.Tests.{both_true}
 use Rattle.statement_round_trip.proofs.RowsFit.{as_long, take_short}
+use Rattle.sql_base.proofs.Truths.{both_hold}
 
 abbrev pub AreFormed : List Word → Type 0
 AreFormed words = AllByRecursion IsFormedWord words
@@ -76,7 +76,7 @@ printable_front : (n : ℕ) (text : List ℕ) → is_printable text ≡ true →
 printable_front zero text h = refl
 printable_front (suc n) [] h = refl
 printable_front (suc n) (b ∷ bs) h =
-    let both = both_true (is_in_range 32 126 b) (list_all (is_in_range 32 126) bs) h in
+    let both = both_hold (is_in_range 32 126 b) (list_all (is_in_range 32 126) bs) h in
     of_both (is_in_range 32 126 b) (list_all (is_in_range 32 126) (take n bs)) both.0 (printable_front n bs both.1)
   where
     of_both : (a b : Bool) → a ≡ true → b ≡ true → (a && b) ≡ true
@@ -88,7 +88,7 @@ formed_value Int (value.Int n) w h = formed_int n h
 formed_value Int (value.Text text) w h = absurd (cc (h))
 formed_value (Char n) (value.Int m) w h = absurd (cc (h))
 formed_value (Char n) (value.Text text) w h =
-    let both = both_true (length text == n) (is_printable text) h in
+    let both = both_hold (length text == n) (is_printable text) h in
     let long = as_long n text h in
     let short = take_short (kept text) text in
     ((omega (arith, long, short, w.1), printable_front (kept text) text both.1), tt)
@@ -97,7 +97,7 @@ formed_values : (ks : List ColumnKind) (vs : List Value) → AllByRecursion IsWi
 formed_values ks [] w h = tt
 formed_values [] (v ∷ vs) w h = absurd (cc (h))
 formed_values (k ∷ ks) (v ∷ vs) w h =
-    let both = both_true (is_of_kind k v) (are_of_kinds ks vs) h in
+    let both = both_hold (is_of_kind k v) (are_of_kinds ks vs) h in
     (formed_value k v w.0 both.0, formed_values ks vs w.1 both.1)
 
 pub formed_row : (ks : List ColumnKind) (vs : List Value) → AllByRecursion IsWidth ks → are_of_kinds ks vs ≡ true → AreFormed (row_words vs)
@@ -109,7 +109,7 @@ formed_literal Int (value.Int n) w h = formed_int n h
 formed_literal Int (value.Text text) w h = absurd (cc (h))
 formed_literal (Char n) (value.Int m) w h = absurd (cc (h))
 formed_literal (Char n) (value.Text text) w h =
-    let both = both_true (nat_le (length text) n) (is_printable text) h in
+    let both = both_hold (nat_le (length text) n) (is_printable text) h in
     ((fits (length text) n both.0 w.1, both.1), tt)
   where
     fits : (m n : ℕ) → nat_le m n ≡ true → n ≤ 255 → m ≤ 255
@@ -119,7 +119,7 @@ formed_literals : (ks : List ColumnKind) (vs : List Value) → AllByRecursion Is
 formed_literals ks [] w h = tt
 formed_literals [] (v ∷ vs) w h = absurd (cc (h))
 formed_literals (k ∷ ks) (v ∷ vs) w h =
-    let both = both_true (is_literal_of k v) (are_leading ks vs) h in
+    let both = both_hold (is_literal_of k v) (are_leading ks vs) h in
     (formed_literal k v w.0 both.0, formed_literals ks vs w.1 both.1)
 
 pub formed_first : (ks : List ColumnKind) (vs : List Value) → AllByRecursion IsWidth ks → are_leading ks vs ≡ true → AreFormed (first_words vs)

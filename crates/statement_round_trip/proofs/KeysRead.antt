@@ -28,10 +28,11 @@ use Rattle.statement_draft.specs.declared.faults.Reason.TheVariants.{OverLimit, 
 use Rattle.statement_printer.specs.Printing.{column_words, key, key_words, name, name_of, place_words, sign}
 use Rattle.statement_round_trip.specs.Onward.{Reads}
 use Rattle.statement_round_trip.specs.Rereading.{AreNamed}
-use Rattle.statement_round_trip.proofs.Apart.{apart_more, apart_none, differing, there, Apart}
+use Rattle.statement_round_trip.proofs.Apart.{apart_more, apart_none, differing, Apart}
 use Rattle.statement_round_trip.proofs.ColumnsRead.{open_steps, tabled}
 use Rattle.statement_round_trip.proofs.Onward.{from, skip, spelled, step, StepsTo}
 use Rattle.statement_round_trip.proofs.RowsRead.{close_steps}
+use Rattle.sql_base.proofs.ListFacts.{some-at}
 
 -- a table whose key columns are being read, and their bytes
 abbrev pub keyed : List ℕ → ℕ → NewTable → NewTable
@@ -91,9 +92,9 @@ bytes_at columns places = sum_by width (chosen places (kinds_of columns))
 
 bytes_on : (columns : List Column) (c : ℕ) (column : Column) (places : List ℕ) → slice_get columns c ≡ Some column → bytes_at columns (c ∷ places) ≡ width column.kind + bytes_at columns places
 bytes_on columns c column places here =
-    let there : slice_get (kinds_of columns) c ≡ Some column.kind =
+    let some-at : slice_get (kinds_of columns) c ≡ Some column.kind =
     slice_get-map (λ (column : Column). column.kind) columns c ∙ ap (option_map (λ (column : Column). column.kind)) here in
-    ap (λ (o : Option ColumnKind). sum_by width (cons_option o (chosen places (kinds_of columns)))) there
+    ap (λ (o : Option ColumnKind). sum_by width (cons_option o (chosen places (kinds_of columns)))) some-at
     ∙ sum_by-cons width column.kind (chosen places (kinds_of columns))
 
 abbrev others : List Column → List ℕ → List Word
@@ -113,7 +114,7 @@ column_reads : (table : NewTable) → AreNamed table.def.columns → (c : ℕ) (
     → ((bytes : ℕ) → MayFollow table.def.columns (before ++ c ∷ []) places bytes total → Reads s (tabled (keyed (before ++ c ∷ []) bytes table) d) ws Last)
     → Reads (grammar.name roles.KeyColumn ∷ s) (tabled (keyed before bytes table) d) (name_of (slice_get table.def.columns c) ∷ ws) Last
 column_reads table named c places before bytes total d h most s ws Last more =
-    let found = there table.def.columns c h.within.0 in
+    let found = some-at table.def.columns c h.within.0 in
     let column = found.0 in
     let is = named c column found.1 in
     let on = bytes_on table.def.columns c column places found.1 in

@@ -11,6 +11,7 @@ use Rattle.sql_base.specs.declared.tables.Column.{Column}
 use Rattle.sql_base.specs.declared.tables.TableDef.{TableDef}
 use Rattle.statement_round_trip.specs.Rereading.{has_leaves, leaves_step}
 use Rattle.statement_round_trip.proofs.ExpressionsRead.{Cases, expr_induction}
+use Rattle.sql_base.proofs.Truths.{and_both}
 
 -- an operator that has a kind has operands with one
 abbrev pub Both : Option Kind → Option Kind → Type 0
@@ -45,10 +46,6 @@ pub column_there : (o : Option Column) → is_some (kind_of_column (option_map (
 column_there None h = h
 column_there (Some c) h = refl
 
-both_true : (a b : Bool) → a ≡ true → b ≡ true → (a && b) ≡ true
-both_true true b h k = k
-both_true false b h k = h
-
 -- where the kind is there, so are the leaves
 abbrev Leafy : TableDef → Expr → Type 0
 Leafy table e = is_some (kind_of table e) ≡ true → has_leaves table.columns e ≡ true
@@ -67,7 +64,7 @@ module _ (table : TableDef) where
   lk e = has_leaves table.columns e
 
   two : (a b : Expr) (k : Option Kind) → Leafy table a → Leafy table b → (is_some k ≡ true → Both (kind_of table a) (kind_of table b)) → is_some k ≡ true → (lk a && lk b) ≡ true
-  two a b k l r from h = let both = from h in both_true (lk a) (lk b) (l both.0) (r both.1)
+  two a b k l r from h = let both = from h in and_both (lk a) (lk b) (l both.0) (r both.1)
 
   leafy : Cases (Leafy table)
   leafy = record {

@@ -39,7 +39,6 @@ pub mod TableNames
 pub mod TablesRead
 pub mod TailsRead
 pub mod Tallies
-pub mod Tests
 pub mod Tokens
 pub mod Typed
 pub mod UpdatesRead

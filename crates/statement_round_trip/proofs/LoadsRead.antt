@@ -35,13 +35,14 @@ use Rattle.sql_base.specs.declared.faults.Fault.{Fault}
 use Rattle.statement_draft.specs.declared.faults.Reason.TheVariants.{CheckFails, NotRising, OverLimit, Repeated, WrongType}
 use Rattle.statement_printer.specs.Printing.{key, load_words, name, row_words, sign, table_name, value_words, with_commas}
 use Rattle.statement_round_trip.specs.Onward.{Reads}
-use Rattle.statement_round_trip.proofs.Apart.{apart_more, apart_none, differing, map_more, Apart}
+use Rattle.statement_round_trip.proofs.Apart.{apart_more, apart_none, differing, Apart}
 use Rattle.statement_round_trip.proofs.FollowingRead.{one_more}
 use Rattle.statement_round_trip.proofs.LimitsRead.{semicolon_steps}
 use Rattle.statement_round_trip.proofs.Onward.{end_before, from, skip, spelled, step, StepsTo}
 use Rattle.statement_round_trip.proofs.RowsFit.{all_fit, counts, load_fills, prints_unpadded, some_value, unpadded}
 use Rattle.statement_round_trip.proofs.RowsRead.{new_row, row_reads}
 use Rattle.statement_round_trip.proofs.TableNames.{AreDeclared, Declared}
+use Rattle.sql_base.proofs.ListFacts.{map-push}
 
 -- where loads have been read, and rows of another
 abbrev pub loaded : List Load → NewLoad → NewRow → ℕ → Draft → Draft
@@ -270,7 +271,7 @@ loads_left (one ∷ some) before load row records d clean declared all differ ap
     let apart_on = differing one.table (map (λ load. load.table) some) differ in
     let n = next_load d.tables some ws in
     let front = before ++ one ∷ [] in
-    let moved : map (λ (load : Load). load.table) front ≡ map (λ (load : Load). load.table) before ++ one.table ∷ [] = map_more (λ (load : Load). load.table) before one in
+    let moved : map (λ (load : Load). load.table) front ≡ map (λ (load : Load). load.table) before ++ one.table ∷ [] = map-push (λ (load : Load). load.table) before one in
     let later : Apart (map (λ (load : Load). load.table) front) (map (λ (load : Load). load.table) some) =
     subst (λ (l : List ℕ). Apart l (map (λ (load : Load). load.table) some)) (sym moved) (apart_more one.table (map (λ load. load.table) before) (map (λ load. load.table) some) apart_on.0 apart.1) in
     spelled _ _ _ _ Last (append_assoc (load_words d.tables one) (flat_map (load_words d.tables) some) (key keys.Session ∷ ws) ∙ ap (λ (l : List Word). load_words d.tables one ++ l) n.2)

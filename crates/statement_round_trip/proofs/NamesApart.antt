@@ -7,7 +7,7 @@ use Rattle.sql_base.specs.Tables.{all_differ}
 use Rattle.sql_base.specs.declared.tables.Column.{Column}
 use Rattle.sql_base.specs.declared.tables.TableDef.{TableDef}
 use Rattle.statement_draft.specs.Names.{column_from, column_named, table_from, table_named}
-use Rattle.statement_round_trip.proofs.Tests.{both_true, either_false, not_true}
+use Rattle.sql_base.proofs.Truths.{both_hold, neither_holds, not-true}
 
 -- the name is none of those before it
 abbrev pub New : List (List ℕ) → List ℕ → Type 0
@@ -27,14 +27,14 @@ new_more (x ∷ before) m n h other = (h.0, new_more before m n h.1 other)
 pub all_new_more : (m : List ℕ) (before ns : List (List ℕ)) → list_any (bytes_eq m) ns ≡ false → AllNew before ns → AllNew (before ++ m ∷ []) ns
 all_new_more m before [] others h = tt
 all_new_more m before (n ∷ ns) others h =
-    let e = either_false (bytes_eq m n) (list_any (bytes_eq m) ns) others in
+    let e = neither_holds (bytes_eq m n) (list_any (bytes_eq m) ns) others in
     (new_more before m n h.0 e.0, all_new_more m before ns e.1 h.1)
 
 -- the first is none of the others, which differ as well
 pub names_differ : (n : List ℕ) (ns : List (List ℕ)) → all_differ bytes_eq (n ∷ ns) ≡ true → (list_any (bytes_eq n) ns ≡ false) × (all_differ bytes_eq ns ≡ true)
 names_differ n ns h =
-    let both = both_true (not (list_any (bytes_eq n) ns)) (all_differ bytes_eq ns) h in
-    (not_true (list_any (bytes_eq n) ns) both.0, both.1)
+    let both = both_hold (not (list_any (bytes_eq n) ns)) (all_differ bytes_eq ns) h in
+    (not-true (list_any (bytes_eq n) ns) both.0, both.1)
 
 abbrev choice : Bool → Bool → ℕ → Option ℕ → Option ℕ
 choice many same n later = cond many None (cond same (Some n) later)

@@ -30,7 +30,7 @@ use Rattle.statement_draft.specs.declared.draft.Scope.TheVariants as scopes
 use Rattle.statement_printer.specs.Printing.{inside, sign}
 use Rattle.statement_round_trip.specs.Rereading.{EndsExpression, words_in, whole_stack, ReadAs}
 use Rattle.statement_round_trip.proofs.Steps.{read_end, read_skip, read_part, read_fixed, read_number}
-use Rattle.statement_round_trip.proofs.Tokens.{halves, one, none}
+use Rattle.statement_round_trip.proofs.Tokens.{halves, no_tokens, one}
 
 pub record TakesOperand (p : Part) (rest : List Symbol) : Type 0 where
   pub number : (n : ℕ) → behind p (word.Number n) ≡ Some rest
@@ -68,7 +68,7 @@ stands_word : (columns : List Column) (w : Word) (depth : ℕ) (x : Operand)
     → Stands columns (w ∷ []) depth x
 stands_word columns w depth x begins comes p rest takes s d tokens t ts at scope room h =
     let o = one w [] tokens h in
-    let alone : tokens ≡ o.token ∷ [] = o.whole ∙ ap (λ (l : List Token). o.token ∷ l) (none o.rest o.words) in
+    let alone : tokens ≡ o.token ∷ [] = o.whole ∙ ap (λ (l : List Token). o.token ∷ l) (no_tokens o.rest o.words) in
     ap (λ (l : List Token). read_from (symbols.Part p ∷ s) d (l ++ t ∷ ts) at) alone
     ∙ read_part p rest s d o.token (t ∷ ts) at (ap (behind p) o.is ∙ begins p rest takes)
     ∙ ap (λ (e : Draft). read_from (rest ++ s) e (t ∷ ts) at) (takes.comes o.token.word o.token.first d ∙ ap (λ (v : Word). operand_came v o.token.first d) o.is ∙ comes o.token.first d scope)
@@ -103,7 +103,7 @@ pub stands_negative : (columns : List Column) (n depth : ℕ) → Stands columns
 stands_negative columns n depth p rest takes s d tokens t ts at scope room h =
     let o = one (sign signs.Minus) (word.Number n ∷ []) tokens h in
     let m = one (word.Number n) [] o.rest o.words in
-    let both : tokens ≡ o.token ∷ m.token ∷ [] = o.whole ∙ ap (λ (l : List Token). o.token ∷ l) (m.whole ∙ ap (λ (l : List Token). m.token ∷ l) (none m.rest m.words)) in
+    let both : tokens ≡ o.token ∷ m.token ∷ [] = o.whole ∙ ap (λ (l : List Token). o.token ∷ l) (m.whole ∙ ap (λ (l : List Token). m.token ∷ l) (no_tokens m.rest m.words)) in
     ap (λ (l : List Token). read_from (symbols.Part p ∷ s) d (l ++ t ∷ ts) at) both
     ∙ read_part p (symbols.Number numbers.NegativeOperand ∷ rest) s d o.token (m.token ∷ t ∷ ts) at (ap (behind p) o.is ∙ takes.minus)
     ∙ ap (λ (e : Draft). read_from (symbols.Number numbers.NegativeOperand ∷ (rest ++ s)) e (m.token ∷ t ∷ ts) at)
@@ -137,7 +137,7 @@ stands_inside columns words depth x reads p rest takes s d tokens t ts at scope 
     let q = halves words (sign signs.Close ∷ []) o.rest o.words in
     let c = one (sign signs.Close) [] q.rest q.rest_words in
     let all : tokens ≡ o.token ∷ (q.front ++ c.token ∷ []) =
-    o.whole ∙ ap (λ (l : List Token). o.token ∷ l) (q.whole ∙ ap (λ (l : List Token). q.front ++ l) (c.whole ∙ ap (λ (l : List Token). c.token ∷ l) (none c.rest c.words))) in
+    o.whole ∙ ap (λ (l : List Token). o.token ∷ l) (q.whole ∙ ap (λ (l : List Token). q.front ++ l) (c.whole ∙ ap (λ (l : List Token). c.token ∷ l) (no_tokens c.rest c.words))) in
     let d1 = opened o.token.first d in
     let more = rest ++ s in
     ap (λ (l : List Token). read_from (symbols.Part p ∷ s) d (l ++ t ∷ ts) at) all

@@ -4,14 +4,14 @@ use Rattle.std.proofs.lemmas.Bool.Decides.{nat_tests}
 use Rattle.sql_base.specs.Rows.{padded}
 use Rattle.statement_printer.specs.Printing.{kept}
 use Rattle.statement_round_trip.specs.Rereading.{PaddedBack}
-use Rattle.statement_round_trip.proofs.Tests.{both_true}
+use Rattle.sql_base.proofs.Truths.{both_hold}
 
 abbrev is_last : ℕ → List ℕ → Bool
 is_last b bs = b == 32 && kept bs == 0
 
 one_blank : (b : ℕ) (bs : List ℕ) → is_last b bs ≡ true → (kept bs ≡ 0 → replicate (length bs) 32 ≡ bs) → replicate (suc (length bs)) 32 ≡ b ∷ bs
 one_blank b bs e more =
-    let both = both_true (b == 32) (kept bs == 0) e in
+    let both = both_hold (b == 32) (kept bs == 0) e in
     let is : b ≡ 32 = grind (arith, nat_tests) in
     let none : kept bs ≡ 0 = grind (arith, nat_tests) in
     ap (λ (l : List ℕ). 32 ∷ l) (more none) ∙ ap (λ (c : ℕ). c ∷ bs) (sym is)

@@ -15,9 +15,9 @@ use Rattle.statement_draft.specs.declared.draft.RowOf.{RowOf}
 use Rattle.statement_draft.specs.declared.draft.RowOf.TheVariants as row_of
 use Rattle.statement_draft.specs.declared.faults.Reason.TheVariants.{TextTooLong}
 use Rattle.statement_printer.specs.Printing.{kept, value_words}
-use Rattle.statement_round_trip.proofs.Tests.{both_true}
 use Rattle.statement_round_trip.proofs.Padding.{padded_back}
 use Rattle.statement_round_trip.proofs.RowsRead.{AllFit, Fits, IsShort, PrintsAs}
+use Rattle.sql_base.proofs.Truths.{both_hold}
 
 -- a value as a record's literal: a text without its last blanks
 abbrev pub unpadded : Value → Value
@@ -43,7 +43,7 @@ fills_up : (n : ℕ) (text : List ℕ) → length text ≡ n → value.Text (pad
 fills_up n text h = ap (λ (k : ℕ). value.Text (padded k (take (kept text) text))) (sym h) ∙ ap (λ (t : List ℕ). value.Text t) (padded_back text)
 
 pub as_long : (n : ℕ) (text : List ℕ) → ((length text == n) && is_printable text) ≡ true → length text ≡ n
-as_long n text h = let both = both_true (length text == n) (is_printable text) h in grind (arith, nat_tests, both.0)
+as_long n text h = let both = both_hold (length text == n) (is_printable text) h in grind (arith, nat_tests, both.0)
 
 -- rows whose texts are filled up
 abbrev pub FillsUp : RowOf → Type 0
@@ -74,7 +74,7 @@ fit_behind : (of : RowOf) → FillsUp of → (front rest : List ColumnKind) (bef
 fit_behind of fills front rest before [] same h = tt
 fit_behind of fills front [] before (v ∷ vs) same h = absurd (cc (h))
 fit_behind of fills front (k ∷ rest) before (v ∷ vs) same h =
-    let both = both_true (is_of_kind k v) (are_of_kinds rest vs) h in
+    let both = both_hold (is_of_kind k v) (are_of_kinds rest vs) h in
     let f = fills k v both.0 in
     let long : length (front ++ k ∷ []) ≡ length (before ++ v ∷ []) = one_longer front k ∙ ap suc same ∙ sym (one_longer before v) in
     let more = fit_behind of fills (front ++ k ∷ []) rest (before ++ v ∷ []) vs long both.1 in (
@@ -89,7 +89,7 @@ as_many : (ks : List ColumnKind) (vs : List Value) → are_of_kinds ks vs ≡ tr
 as_many [] [] h = refl
 as_many [] (v ∷ vs) h = absurd (cc (h))
 as_many (k ∷ ks) [] h = absurd (cc (h))
-as_many (k ∷ ks) (v ∷ vs) h = ap suc (as_many ks vs (both_true (is_of_kind k v) (are_of_kinds ks vs) h).1)
+as_many (k ∷ ks) (v ∷ vs) h = ap suc (as_many ks vs (both_hold (is_of_kind k v) (are_of_kinds ks vs) h).1)
 
 -- a row has as many values as its table has columns
 pub counts : (ks : List ColumnKind) (vs : List Value) → are_of_kinds ks vs ≡ true → not (nat_eq (length vs) (length ks)) ≡ false

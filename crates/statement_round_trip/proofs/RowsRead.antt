@@ -79,7 +79,7 @@ negative_steps n s d first end ts at = refl
 below : (n : ℕ) → nat_lt n (2 ^ 63) ≡ true → min n (2 ^ 63 - 1) ≡ n
 below n h = grind (arith, nat_tests)
 
-narrow : (n : ℕ) → nat_lt n (2 ^ 63) ≡ true → is_wide n ≡ false
+pub narrow : (n : ℕ) → nat_lt n (2 ^ 63) ≡ true → is_wide n ≡ false
 narrow n h = grind (arith, nat_tests)
 
 least : (n : ℕ) → nat_lt n (2 ^ 63) ≡ true → min (suc n) (2 ^ 63) ≡ suc n

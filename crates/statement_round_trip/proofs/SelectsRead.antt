@@ -33,13 +33,14 @@ use Rattle.statement_draft.specs.declared.faults.Reason.TheVariants.{OverLimit, 
 use Rattle.statement_printer.specs.Printing.{column_words, key, name, name_of, sign, with_commas, words_on}
 use Rattle.statement_round_trip.specs.Onward.{Reads}
 use Rattle.statement_round_trip.specs.Rereading.{AreNamed}
-use Rattle.statement_round_trip.proofs.Apart.{apart_more, apart_none, differing, map_more, there, Apart}
+use Rattle.statement_round_trip.proofs.Apart.{apart_more, apart_none, differing, Apart}
 use Rattle.statement_round_trip.proofs.Beginning.{begun, done, on_table, table_is, Begins}
 use Rattle.statement_round_trip.proofs.LocksRead.{from_steps, Behind}
 use Rattle.statement_round_trip.proofs.Naming.{columns_named}
 use Rattle.statement_round_trip.proofs.Onward.{end_before, from, skip, spelled, step, StepsTo}
 use Rattle.statement_round_trip.proofs.TableNames.{Declared}
 use Rattle.statement_round_trip.proofs.TailsRead.{accessed, read_access, tail_reads, with_filter}
+use Rattle.sql_base.proofs.ListFacts.{map-push, some-at}
 
 abbrev with_names : List NameAt → Draft → Draft
 with_names ns d = record d { statement = record d.statement { names = ns } }
@@ -70,9 +71,9 @@ next_steps n s d first end ts at = refl
 one_name : (columns : List Column) (cs : List ℕ) (ns : List NameAt) (c place : ℕ) (n : List ℕ) → column_named columns n ≡ Some c → Name columns cs ns
     → Name columns (cs ++ c ∷ []) (ns ++ at_place n place ∷ [])
 one_name columns cs ns c place n found named =
-    map_more (λ (n : NameAt). column_named columns n.name) ns (at_place n place)
+    map-push (λ (n : NameAt). column_named columns n.name) ns (at_place n place)
     ∙ ap (λ (l : List (Option ℕ)). l ++ column_named columns n ∷ []) named ∙ ap (λ (o : Option ℕ). map (λ (c : ℕ). Some c) cs ++ o ∷ []) found
-    ∙ sym (map_more (λ (c : ℕ). Some c) cs c)
+    ∙ sym (map-push (λ (c : ℕ). Some c) cs c)
 
 abbrev others : List Column → List ℕ → List Word
 others columns cs = flat_map (λ y. sign signs.Comma ∷ column_words columns y) cs
@@ -83,7 +84,7 @@ others_read : (columns : List Column) → AreNamed columns → (cs before : List
     → Reads (part parts.MoreSelected ∷ s) (with_names ns d) (others columns cs ++ ws) Last
 others_read columns named [] before ns within here s d ws Last more = more ns (subst (λ (l : List ℕ). Name columns l ns) (sym (append-nil before)) here)
 others_read columns named (c ∷ cs) before ns within here s d ws Last more =
-    let found = there columns c within.0 in
+    let found = some-at columns c within.0 in
     let column = found.0 in
     let is = named c column found.1 in
     spelled _ (with_names ns d) _ _ Last (ap (λ (o : Option Column). sign signs.Comma ∷ name_of o ∷ (others columns cs ++ ws)) found.1)
@@ -99,7 +100,7 @@ list_reads : (columns : List Column) → AreNamed columns → (c : ℕ) (cs : Li
     → ((ms : List NameAt) → Name columns (c ∷ cs) ms → Reads (part parts.MoreSelected ∷ s) (with_names ms d) ws Last)
     → Reads (part parts.Selected ∷ s) d (with_commas (column_words columns) (c ∷ cs) ++ ws) Last
 list_reads columns named c cs within s d ws Last none more =
-    let found = there columns c within.0 in
+    let found = some-at columns c within.0 in
     let column = found.0 in
     let is = named c column found.1 in
     spelled _ d _ _ Last (ap (λ (o : Option Column). name_of o ∷ (others columns cs ++ ws)) found.1)

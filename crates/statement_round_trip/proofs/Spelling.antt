@@ -1,5 +1,5 @@
 -- The bytes of printed words have these words.
-use Rattle.std.proofs.Common.{◌≡◌, ◌≤◌, ◌<◌, ℕ, ◌+◌, ◌-◌, ◌^◌, List, [], ◌∷◌, ◌++◌, length, take, Bool, true, false, ◌&&◌, ◌==◌, Option, Some, None, Result, Ok, cond, ltb, refl, sym, ap, ◌∙◌, append_assoc, arith, length-append}
+use Rattle.std.proofs.Common.{◌≡◌, ◌≤◌, ◌<◌, ℕ, ◌+◌, ◌-◌, ◌^◌, List, [], ◌∷◌, ◌++◌, length, take, Bool, true, false, ◌&&◌, ◌==◌, Option, None, Result, Ok, cond, ltb, refl, sym, ap, ◌∙◌, append_assoc, arith, length-append}
 use Rattle.std.specs.Prelude.{flat_map, decimal, nat_lt}
 use Rattle.std.specs.List.{list_all, prefix_len, AllByRecursion}
 use Rattle.std.specs.Char.{is_ascii_digit, is_ascii_alphabetic}
@@ -23,11 +23,13 @@ use Rattle.statement_words.specs.declared.tokens.Token.{Token}
 use Rattle.statement_words.specs.declared.tokens.Word.{Word}
 use Rattle.statement_words.specs.declared.tokens.Word.TheVariants as word
 use Rattle.statement_printer.specs.Bytes.{written, sign_gap, gap, bytes_of}
-use Rattle.std.specs.Prelude.{is_some, nat_le}
+use Rattle.std.specs.Prelude.{nat_le}
 use Rattle.sql_base.specs.Names.{is_name_byte, is_keyword, begins_with_letter}
 use Rattle.statement_words.specs.Spans.{IsFormedWord}
 use Rattle.statement_words.proofs.Formed.{keyword_of-known}
 use Rattle.statement_round_trip.specs.Respelling.{tokens_at, WordsReadBack}
+use Rattle.sql_base.proofs.Truths.{and_both, both_hold, none-is}
+use Rattle.sql_base.proofs.RowFacts.{alphabetic_in_name}
 
 abbrev begins_name : List ℕ → Bool
 begins_name [] = false
@@ -108,28 +110,16 @@ found_key at keys.And rest = record { first = _; more = _; bytes = refl; stands 
 found_key at keys.Or rest = record { first = _; more = _; bytes = refl; stands = refl; read = refl }
 found_key at keys.Not rest = record { first = _; more = _; bytes = refl; stands = refl; read = refl }
 
-both_of : (a b : Bool) → (a && b) ≡ true → (a ≡ true) × (b ≡ true)
-both_of true true h = (refl, refl)
-both_of true false h = absurd cc
-both_of false b h = absurd cc
-
 prefix_all : (test : ℕ → Bool) (xs : List ℕ) (c : ℕ) (rest : List ℕ) → list_all test xs ≡ true → test c ≡ false → prefix_len test (xs ++ c ∷ rest) ≡ length xs
 prefix_all test [] c rest all stop = rw stop refl
 prefix_all test (x ∷ xs) c rest all stop =
-    let parts = both_of (test x) (list_all test xs) all in
+    let parts = both_hold (test x) (list_all test xs) all in
     ap (λ (b : Bool). cond b (1 + prefix_len test (xs ++ c ∷ rest)) 0) parts.0 ∙ ap (λ (k : ℕ). 1 + k) (prefix_all test xs c rest parts.1 stop) ∙ omega arith
 
 -- names
 
 letter_stands : (b : ℕ) → is_ascii_alphabetic b ≡ true → is_separator b ≡ false
 letter_stands b h = grind (arith, nat_tests)
-
-letter_in_name : (b : ℕ) → is_ascii_alphabetic b ≡ true → is_name_byte b ≡ true
-letter_in_name b h = grind (arith, nat_tests)
-
-of_both : (a b : Bool) → a ≡ true → b ≡ true → (a && b) ≡ true
-of_both true b h k = k
-of_both false b h k = absurd cc
 
 letter_first : (at b : ℕ) (bs : List ℕ) → is_ascii_alphabetic b ≡ true → word_at at (b ∷ bs) ≡ name_at (b ∷ bs)
 unfolding word_at
@@ -147,14 +137,14 @@ name_read name rest all plain =
 found_name : (at : ℕ) (name rest : List ℕ) → begins_name name ≡ true → keyword_of name ≡ None → Found at (word.Name name) rest
 found_name at [] rest h plain = absurd cc
 found_name at (b ∷ bs) rest h plain =
-    let parts = both_of (is_ascii_alphabetic b) (list_all is_name_byte bs) h in
+    let parts = both_hold (is_ascii_alphabetic b) (list_all is_name_byte bs) h in
     record {
       first = b;
       more = bs;
       bytes = refl;
       stands = letter_stands b parts.0;
       read = letter_first at b (bs ++ 32 ∷ rest) parts.0
-          ∙ name_read (b ∷ bs) rest (of_both (is_name_byte b) (list_all is_name_byte bs) (letter_in_name b parts.0) parts.1) plain;
+          ∙ name_read (b ∷ bs) rest (and_both (is_name_byte b) (list_all is_name_byte bs) (alphabetic_in_name b parts.0) parts.1) plain;
     }
 
 -- numbers
@@ -171,8 +161,8 @@ range_digit c h = grind (arith, nat_tests)
 test_digits : IsDigitsTest AreDigits
 test_digits = record {
   empty = refl;
-  parts = λ c cs h. let p = both_of (is_ascii_digit c) (list_all is_ascii_digit cs) h in (digit_range c p.0, p.1);
-  more = λ c cs range all. of_both (is_ascii_digit c) (list_all is_ascii_digit cs) (range_digit c range) all;
+  parts = λ c cs h. let p = both_hold (is_ascii_digit c) (list_all is_ascii_digit cs) h in (digit_range c p.0, p.1);
+  more = λ c cs range all. and_both (is_ascii_digit c) (list_all is_ascii_digit cs) (range_digit c range) all;
 }
 
 numeral : IsNumeralModel AreDigits (words.decimal_from 0)
@@ -203,7 +193,7 @@ number_read at n ds rest all value most =
 by_digits : (at n : ℕ) (ds rest : List ℕ) → decimal n ≡ ds → AreDigits ds → words.decimal ds ≡ n → 0 < length ds → n ≤ 2 ^ 63 → Found at (word.Number n) rest
 by_digits at n [] rest e all value some most = absurd (omega arith)
 by_digits at n (d ∷ ds) rest e all value some most =
-    let first = (both_of (is_ascii_digit d) (list_all is_ascii_digit ds) all).0 in
+    let first = (both_hold (is_ascii_digit d) (list_all is_ascii_digit ds) all).0 in
     record {
       first = d;
       more = ds;
@@ -253,7 +243,7 @@ text_reads : (at n : ℕ) (text xs rest : List ℕ) → list_all is_text_byte xs
     → text_from at n (text_state text false) (flat_map quoted xs ++ 39 ∷ 32 ∷ rest) ≡ Ok (record { text = text ++ xs; len = n + length (flat_map quoted xs) + 1 })
 text_reads at n text [] rest all = text_closes at n text rest ∙ ap (λ (l : List ℕ). Ok (record { text = l; len = n + 1 })) (sym (append-nil text)) ∙ ap (λ (k : ℕ). Ok (record { text = text ++ []; len = k })) (omega arith)
 text_reads at n text (x ∷ xs) rest all =
-    let parts = both_of (is_text_byte x) (list_all is_text_byte xs) all in
+    let parts = both_hold (is_text_byte x) (list_all is_text_byte xs) all in
     let behind = flat_map quoted xs ++ 39 ∷ 32 ∷ rest in
     ap (text_from at n (text_state text false)) (append_assoc (quoted x) (flat_map quoted xs) (39 ∷ 32 ∷ rest))
     ∙ one_byte at n text behind x (x == 39) refl parts.0
@@ -286,14 +276,10 @@ found_text at text rest most all =
 -- a word that names something begins and goes on as a name, and is no keyword
 named_begins : (name : List ℕ) → begins_with_letter name ≡ true → list_all is_name_byte name ≡ true → begins_name name ≡ true
 named_begins [] letter all = letter
-named_begins (b ∷ bs) letter all = of_both (is_ascii_alphabetic b) (list_all is_name_byte bs) letter (both_of (is_name_byte b) (list_all is_name_byte bs) all).1
-
-no_some : (found : Option Keyword) → is_some found ≡ false → found ≡ None
-no_some None h = refl
-no_some (Some k) h = cc
+named_begins (b ∷ bs) letter all = and_both (is_ascii_alphabetic b) (list_all is_name_byte bs) letter (both_hold (is_name_byte b) (list_all is_name_byte bs) all).1
 
 no_keyword : (name : List ℕ) → is_keyword name ≡ false → keyword_of name ≡ None
-no_keyword name h = no_some (keyword_of name) (keyword_of-known name ∙ h)
+no_keyword name h = none-is (keyword_of name) (keyword_of-known name ∙ h)
 
 found : (at : ℕ) (w : Word) (rest : List ℕ) → IsFormedWord w → Found at w rest
 found at (word.Keyword k) rest h = found_key at k rest

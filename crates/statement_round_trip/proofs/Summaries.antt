@@ -15,7 +15,7 @@ use Rattle.statement_draft.specs.declared.kinds.Operand.{Operand}
 use Rattle.sql_base.specs.Rows.{in_i64}
 use Rattle.statement_round_trip.specs.Rereading.{summary, summary_step, int_operand, has_leaves, leaves_step, SummariesTell}
 use Rattle.statement_round_trip.proofs.ExpressionsRead.{Cases, expr_induction}
-use Rattle.statement_round_trip.proofs.Tests.{both_true}
+use Rattle.sql_base.proofs.Truths.{both_hold}
 
 -- the operand holds the tree, and is as deep
 record Holds (x : Operand) (depth : ℕ) (e : Expr) : Type 0 where
@@ -42,7 +42,7 @@ not_above n h = grind (arith, nat_tests)
 
 tells_binary : (o : Op) (l m : Bool) (x y : Operand) (j k : ℕ) (a b : Expr) → Tells l x j a → Tells m y k b → Tells (l && m) (binary o x y) (max j k + 1) (op_tree o a b)
 tells_binary o l m x y j k a b left right leaves most =
-    let both = both_true l m leaves in
+    let both = both_hold l m leaves in
     let s = left both.0 (omega arith) in
     let t = right both.1 (omega arith) in
     let fine : nat_le 32 (max x.depth y.depth) ≡ false = subst (λ (n : ℕ). nat_le 32 (max n y.depth) ≡ false) (sym s.deep) (subst (λ (n : ℕ). nat_le 32 (max j n) ≡ false) (sym t.deep) (not_above (max j k) (omega arith))) in

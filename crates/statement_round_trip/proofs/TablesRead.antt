@@ -33,7 +33,6 @@ use Rattle.statement_draft.specs.declared.draft.Scope.{Scope}
 use Rattle.statement_draft.specs.declared.faults.Reason.TheVariants.{OverLimit, Repeated}
 use Rattle.statement_printer.specs.Printing.{check_words, declaration, declared_words, firsts_words, key, key_words, name, sign, table_words}
 use Rattle.statement_round_trip.specs.Onward.{Reads}
-use Rattle.statement_round_trip.proofs.Apart.{map_more}
 use Rattle.statement_round_trip.proofs.AtTheEnd.{end_then}
 use Rattle.statement_round_trip.proofs.ChecksRead.{checking, checks_read, front_of}
 use Rattle.statement_round_trip.proofs.ColumnsRead.{columned, columns_read, open_steps, tabled, MayFollow}
@@ -43,6 +42,7 @@ use Rattle.statement_round_trip.proofs.LimitsRead.{semicolon_steps}
 use Rattle.statement_round_trip.proofs.NamesApart.{all_new, all_new_more, names_differ, undeclared, AllNew, New}
 use Rattle.statement_round_trip.proofs.Naming.{columns_named, not_long}
 use Rattle.statement_round_trip.proofs.Onward.{from, skip, spelled, step, StepsTo}
+use Rattle.sql_base.proofs.ListFacts.{map-push}
 
 -- behind TABLE
 abbrev table_symbols : List Symbol → List Symbol
@@ -204,7 +204,7 @@ behind_first before table rest h =
     let sum : parts_of (table ∷ rest) ≡ length table.firsts + 1 + parts_of rest = sum_by-cons (λ (table : TableDef). length table.firsts + 1) table rest in
     let pushed : parts_of (before ++ table ∷ []) ≡ parts_of before + (length table.firsts + 1) = sum_by_push (λ (table : TableDef). length table.firsts + 1) before table in
     let apart = names_differ table.name (names_of rest) h.differ in
-    let moved : names_of (before ++ table ∷ []) ≡ names_of before ++ table.name ∷ [] = map_more (λ (table : TableDef). table.name) before table in
+    let moved : names_of (before ++ table ∷ []) ≡ names_of before ++ table.name ∷ [] = map-push (λ (table : TableDef). table.name) before table in
     record {
       few = omega (arith, long, h.few);
       parts = omega (arith, sum, pushed, h.parts);

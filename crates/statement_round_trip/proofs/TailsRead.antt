@@ -38,11 +38,12 @@ key_steps_access s d first end ts at = refl
 abbrev pub accessed : Access → Draft → Draft
 accessed a d = record d { statement = record d.statement { access = a } }
 
-read_steps : (a : Access) (s : List Symbol) (d : Draft) → StepsTo (part parts.ReadAccess ∷ s) d (key (access_key a)) s (λ place. accessed a d)
+-- as SELECT may have it
+pub read_access : (a : Access) (s : List Symbol) (d : Draft) → StepsTo (part parts.ReadAccess ∷ s) d (key (access_key a)) s (λ place. accessed a d)
 unfolding read_from word_read advance all_ended came behind
-read_steps access.Browse s d first end ts at = refl
-read_steps access.Stable s d first end ts at = refl
-read_steps access.Repeatable s d first end ts at = refl
+read_access access.Browse s d first end ts at = refl
+read_access access.Stable s d first end ts at = refl
+read_access access.Repeatable s d first end ts at = refl
 
 change_steps : (a : Access) (s : List Symbol) (d : Draft) → MayChange a → StepsTo (part parts.ChangeAccess ∷ s) d (key (access_key a)) s (λ place. accessed a d)
 unfolding read_from word_read advance all_ended came behind
@@ -94,9 +95,6 @@ tail_reads table is p filter a suits steps s d ws Last scope none more =
     spelled _ d _ _ Last (append_assoc (filter_words table.columns filter) (key keys.For ∷ key (access_key a) ∷ key keys.Access ∷ sign signs.Semicolon ∷ []) ws)
     (filter_reads table is filter suits _ d _ Last scope none (λ place e. access_reads p a s (with_filter place filter e d) ws Last steps (more place e)))
 
--- as SELECT may have it, and as a change may
-pub read_access : (a : Access) (s : List Symbol) (d : Draft) → StepsTo (part parts.ReadAccess ∷ s) d (key (access_key a)) s (λ place. accessed a d)
-read_access a s d = read_steps a s d
-
+-- as a change may
 pub change_access : (a : Access) → MayChange a → (s : List Symbol) (d : Draft) → StepsTo (part parts.ChangeAccess ∷ s) d (key (access_key a)) s (λ place. accessed a d)
 change_access a may s d = change_steps a s d may

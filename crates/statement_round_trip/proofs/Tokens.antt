@@ -31,6 +31,6 @@ pub one : (u : Word) (vs : List Word) (ts : List Token) → words_in ts ≡ u �
 one u vs [] h = absurd cc
 one u vs (t ∷ ts) h = record { token = t; rest = ts; whole = refl; is = cc; words = cc }
 
-pub none : (ts : List Token) → words_in ts ≡ [] → ts ≡ []
-none [] h = refl
-none (t ∷ ts) h = absurd cc
+pub no_tokens : (ts : List Token) → words_in ts ≡ [] → ts ≡ []
+no_tokens [] h = refl
+no_tokens (t ∷ ts) h = absurd cc

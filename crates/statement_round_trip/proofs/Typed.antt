@@ -36,7 +36,7 @@ as_text (Some kind.Number) n h = absurd cc
 as_text (Some (kind.Text m)) n h = let same : m ≡ n = cc in ap (λ (k : ℕ). Some (kind.Text k)) same
 as_text (Some kind.Truth) n h = absurd cc
 
-as_truth : (x : Option Kind) → option_map meant x ≡ Some base.OfTruth → x ≡ Some kind.Truth
+pub as_truth : (x : Option Kind) → option_map meant x ≡ Some base.OfTruth → x ≡ Some kind.Truth
 as_truth None h = absurd cc
 as_truth (Some kind.Number) h = absurd cc
 as_truth (Some (kind.Text n)) h = absurd cc

@@ -21,14 +21,12 @@ use Rattle.statement_draft.specs.declared.faults.Reason.TheVariants.{Unexpected}
 use Rattle.statement_draft.specs.declared.draft.Draft.{Draft}
 use Rattle.statement_draft.proofs.Clean.{noted-none}
 use Rattle.statement_rules.proofs.Stays as stays
+use Rattle.sql_base.proofs.Truths.{some-same, not-false}
 
 all_ended-more : (es : List End) (e : End) (d : Draft) → all_ended (es ++ e ∷ []) d ≡ ended e (all_ended es d)
 unfolding all_ended
 all_ended-more [] e d = refl
 all_ended-more (x ∷ es) e d = all_ended-more es e (ended x d)
-
-taken_is : (t u : Taken) → Some t ≡ Some u → t ≡ u
-taken_is t u e = cc
 
 no_taken : (t : Taken) → None ≡ Some t → ⊥
 no_taken t e = cc
@@ -93,7 +91,7 @@ module _ (Pre : Part → Draft → Type 0) (Post : Part → Draft → Draft → 
     takes_goes : (es : List End) (fits : Bool) (role : Symbol) (rest : List Symbol) (w : Word) (at : ℕ) (d : Draft)
         → (fits ≡ true → (came role w at (all_ended es d)).first ≡ None → demands rest Q (came role w at (all_ended es d)))
         → Goes (takes es fits role rest) w at d
-    takes_goes es true role rest w at d goes = λ t e h. let is = taken_is (record { role = role; rest = rest }) t e in
+    takes_goes es true role rest w at d goes = λ t e h. let is = some-same (record { role = role; rest = rest }) t e in
         subst (λ t. (came t.role w at (all_ended es d)).first ≡ None → demands t.rest Q (came t.role w at (all_ended es d))) is (goes refl) h
     takes_goes es false role rest w at d goes = λ t e h. absurd (no_taken t e)
 
@@ -145,15 +143,11 @@ module _ (Pre : Part → Draft → Type 0) (Post : Part → Draft → Draft → 
     finish_ends es (symbols.Name role ∷ s) d b = λ whole h. absurd (cc (whole))
     finish_ends es (symbols.Number role ∷ s) d b = λ whole h. absurd (cc (whole))
 
-    whole_there : (whole : Bool) → not whole ≡ false → whole ≡ true
-    whole_there true h = refl
-    whole_there false h = absurd (cc (h))
-
     end_goes : (s : List Symbol) (d : Draft) (at : ℕ) → (end_read s d at).first ≡ None → demands s Q d → Q (end_read s d at)
     unfolding end_read all_ended
     end_goes s d at h p = let f = finish [] s in let e = all_ended f.ends d in
         let n = noted-none (not f.whole) Unexpected at e.first h in
-        still e _ (finish_ends [] s d (λ h2. p) (whole_there f.whole n.0) n.1)
+        still e _ (finish_ends [] s d (λ h2. p) (not-false f.whole n.0) n.1)
 
     -- where a word was read without fault, the symbols behind it have what they demand
     after_goes : (a : Advance) (t : Token) (d : Draft) (r : List Symbol) → Goes a t.word t.first d → (after a.taken t (all_ended a.ends d)).rest ≡ Some r

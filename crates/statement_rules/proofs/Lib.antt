@@ -4,7 +4,7 @@ mod Differing
 mod ExpressionParts
 mod ExpressionSteps
 mod FirstSteps
-mod Listing
+pub mod Listing
 mod LoadSteps
 mod PartContracts
 pub mod RowSteps

@@ -18,13 +18,9 @@ use Rattle.statement_draft.specs.TableEvents.{column_bytes}
 use Rattle.statement_draft.specs.declared.draft.NameAt.{NameAt}
 use Rattle.statement_draft.specs.declared.faults.Fault.{Fault}
 use Rattle.sql_base.proofs.Truths.{and_left, and_right, and_true, neither, not-is, not-true, or_left, or_right}
-use Rattle.sql_base.proofs.ListFacts.{all-push}
+use Rattle.sql_base.proofs.ListFacts.{all-push, any-none_more}
 
-any_none : {A : Type 0} (f : A → Bool) (xs : List A) (c : A) → list_any f xs ≡ false → f c ≡ false → list_any f (xs ++ c ∷ []) ≡ false
-any_none f [] c h e = neither (f c) false e refl
-any_none f (x ∷ xs) c h e = neither (f x) _ (or_left (f x) _ h) (any_none f xs c (or_right (f x) _ h) e)
-
-eq_turned : (m n : ℕ) → nat_eq m n ≡ false → nat_eq n m ≡ false
+pub eq_turned : (m n : ℕ) → nat_eq m n ≡ false → nat_eq n m ≡ false
 eq_turned m n h = grind (arith, nat_tests, h)
 
 -- one more that is none of them
@@ -33,7 +29,7 @@ differ_more [] c h e = refl
 differ_more (x ∷ xs) c h e =
     and_true (not (list_any (nat_eq x) (xs ++ c ∷ []))) _
     (not-is (list_any (nat_eq x) (xs ++ c ∷ []))
-    (any_none (nat_eq x) xs c (not-true (list_any (nat_eq x) xs) (and_left (not (list_any (nat_eq x) xs)) _ h)) (eq_turned c x (or_left (nat_eq c x) _ e))))
+    (any-none_more (nat_eq x) xs c (not-true (list_any (nat_eq x) xs) (and_left (not (list_any (nat_eq x) xs)) _ h)) (eq_turned c x (or_left (nat_eq c x) _ e))))
     (differ_more xs c (and_right (not (list_any (nat_eq x) xs)) _ h) (or_right (nat_eq c x) _ e))
 
 chosen_place : (b : Bool) (n c : ℕ) (later : Option ℕ) → (if b then Some n else later) ≡ Some c → (later ≡ Some c → n ≤ c) → n ≤ c

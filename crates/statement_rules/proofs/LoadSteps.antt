@@ -27,9 +27,8 @@ use Rattle.statement_rules.proofs.Listing.{differ_more}
 use Rattle.statement_rules.proofs.Listing.{table_within}
 use Rattle.statement_rules.proofs.Stays as stays
 use Rattle.statement_rules.proofs.RowSteps.{fits_row, row_of_kinds}
-use Rattle.statement_rules.proofs.TableSteps.{is_none}
 use Rattle.statement_rules.proofs.States.{Tabled, last_of, LoadsSound, Loading, LastKey, InLoadOf}
-use Rattle.sql_base.proofs.Truths.{not-false}
+use Rattle.sql_base.proofs.Truths.{not-false, none-is}
 use Rattle.sql_base.proofs.ListFacts.{all-push}
 
 pub unknown_none : (at : ℕ) (f : Option Fault) → noted true UnknownName at f ≡ None → ⊥
@@ -143,7 +142,7 @@ loaded_row d h fits counts c is clean =
         rows = all-push (IsRow table) d.load.rows row.values h.rows (row_of_kinds (kinds table) row.values (load_fits d h fits) (counted_all row (kinds table) h.kinds counts));
         rise = subst Rise keys risen.0;
         last = subst (LastKey (Some (key_of table row.values))) keys risen.1;
-        checks = all-push (λ (r : List Value). first_failing table.checks r ≡ None) d.load.rows row.values h.checks (is_none (first_failing table.checks row.values) passes);
+        checks = all-push (λ (r : List Value). first_failing table.checks r ≡ None) d.load.rows row.values h.checks (none-is (first_failing table.checks row.values) passes);
       },
       omega (arith, longer),
     )

@@ -111,11 +111,6 @@ name_stays name at d h = one _ _ _ _ (found_name_stays (expressions.columns_in d
 row_loaded_stays : (table : TableDef) → Stays (rows.row_loaded table)
 row_loaded_stays table d h = one _ _ _ _ (one _ _ _ _ h)
 
--- where the row is judged, there was no fault
-pub not_some : (f : Option Fault) → is_some f ≡ false → f ≡ None
-not_some None h = refl
-not_some (Some f) h = absurd (cc)
-
 pub row_judged_stays : (t : Option TableDef) → Stays (rows.row_judged t)
 row_judged_stays None d h = h
 row_judged_stays (Some table) d h = by_first d.first refl h

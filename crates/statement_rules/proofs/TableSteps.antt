@@ -24,12 +24,8 @@ use Rattle.statement_rules.proofs.Listing.{place_within, below, key_more, key_di
 use Rattle.statement_rules.proofs.Listing.{bytes_more}
 use Rattle.statement_rules.proofs.Differing.{columns_differ, tables_differ}
 use Rattle.statement_rules.proofs.States.{TablesSound, Tabled, Room, kinds_in, ColumnsSound, NextColumn, InColumns, Columning, KeySound, Keying, Declared, Whole}
-use Rattle.sql_base.proofs.Truths.{not-false, or_left, or_right, plus-none}
+use Rattle.sql_base.proofs.Truths.{not-false, or_left, or_right, plus-none, none-is}
 use Rattle.sql_base.proofs.ListFacts.{all-push}
-
-pub is_none : {A : Type 0} (o : Option A) → is_some o ≡ false → o ≡ None
-is_none None h = refl
-is_none (Some x) h = absurd (cc (h))
 
 pub short_name : (name : List ℕ) → IsName name → is_long name ≡ false → IsShortName name
 short_name name is h = record { name = is; short = grind (arith, nat_tests, h) }
@@ -54,7 +50,7 @@ table_named_so name at d is h m =
     let few = m.few in
     let parts = m.parts in (
       short_name name is (noted-none (is_long name) OverLimit at d.first outer.1).0,
-      record { new = is_none (table_named d.tables name) outer.0; few = m.few; parts = omega (arith, parts) },
+      record { new = none-is (table_named d.tables name) outer.0; few = m.few; parts = omega (arith, parts) },
     )
 
 -- the name of a column
@@ -68,7 +64,7 @@ column_named_so name at d is h =
     let room = or_right (is_long name) (nat_le 32 (length columns)) fits in
     record {
       short = short_name name is (or_left (is_long name) (nat_le 32 (length columns)) fits);
-      new = is_none (column_named columns name) outer.0;
+      new = none-is (column_named columns name) outer.0;
       room = grind (arith, nat_tests, room);
     }
 

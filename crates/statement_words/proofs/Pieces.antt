@@ -1,7 +1,7 @@
 -- The longest word at a place is written on the bytes that it takes.
 use Rattle.std.proofs.Common.{◌≡◌, ◌≤◌, ◌<◌, ◌^◌, ◌+◌, ℕ, List, [], ◌∷◌, ◌++◌, length, take, Bool, true, false, ◌||◌, ◌&&◌, ◌==◌, cond, ltb, leb, Option, Some, None, Result, Ok, Err, refl, sym, ap, ◌∙◌, subst, arith, append_assoc, length-append}
 use Rattle.std.specs.Prelude.{flat_map}
-use Rattle.std.specs.List.{AllPass, prefix_len, find}
+use Rattle.std.specs.List.{AllPass, prefix_len}
 use Rattle.std.specs.Char.{is_ascii_digit, is_ascii_alphabetic}
 use Rattle.std.specs.Str.{bytes_eq}
 use Rattle.std.proofs.lemmas.Slice.Eq.{bytes_eq-Decides}
@@ -22,6 +22,7 @@ use Rattle.statement_words.specs.Reading.{Place, fails, ◌>>=◌}
 use Rattle.statement_words.specs.Spans.{IsWritten, sign_spelling, quoted}
 use Rattle.statement_words.specs.Words.{Piece, keyword_or_name, name_at, decimal, number_at, Inside, TextState, TextStep, text_step, text_from, text_goes, text_ends, text_at, sign, less_at, greater_at, sign_at, word_at}
 use Rattle.sql_base.proofs.RowFacts.{alphabetic_in_name}
+use Rattle.sql_base.proofs.ListFacts.{found_passes}
 
 -- a word on the first bytes, one at least
 pub record IsPiece (bytes : List ℕ) (x : Piece) : Type 0 where
@@ -38,21 +39,12 @@ pub bound : {A B : Type 0} (r : Result A Place) (f : A → Result B Place) (y : 
 bound (Ok x) f y h = (x, refl, h)
 bound (Err e) f y h = cc
 
-either_true : (a b : Bool) → a ≡ true → (a || b) ≡ true
-either_true true b h = refl
-either_true false b h = cc
-
 some_prefix : (p : ℕ → Bool) (b : ℕ) (bs : List ℕ) → p b ≡ true → 0 < prefix_len p (b ∷ bs)
 some_prefix p b bs h = rw h (omega arith)
 
-find_passes : (p : Keyword → Bool) (ks : List Keyword) (k : Keyword) → find p ks ≡ Some k → p k ≡ true
-find_passes p [] k h = cc
-find_passes p (j ∷ js) k h =
-    chosen (p j) (Some j) (find p js) (Some k) (λ is same. let e : j ≡ k = cc in ap p (sym e) ∙ is) (λ is more. find_passes p js k more) h
-
 keyword_of-some : (bytes : List ℕ) (k : Keyword) → keyword_of bytes ≡ Some k → bytes ≡ spelling k
 unfolding keyword_of
-keyword_of-some bytes k h = (bytes_eq-Decides bytes (spelling k)).0 (find_passes (λ j. bytes_eq bytes (spelling j)) keywords k h)
+keyword_of-some bytes k h = (bytes_eq-Decides bytes (spelling k)).0 (found_passes (λ j. bytes_eq bytes (spelling j)) keywords k h)
 
 named : (bytes : List ℕ) (found : Option Keyword) → keyword_of bytes ≡ found → IsWritten (keyword_or_name found bytes) bytes
 named bytes None h = refl

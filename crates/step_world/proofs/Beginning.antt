@@ -20,11 +20,13 @@ use Rattle.step_world.specs.Scaffold.Openings.{AreOpened, is_opened}
 use Rattle.step_world.specs.Runs.{AreNew, AreSeated, IsNew, new_seat}
 use Rattle.step_world.specs.Scaffold.Seats.{seen}
 use Rattle.step_world.specs.Tellings.{Telling}
-use Rattle.step_world.specs.Scaffold.Worlds.{Driving, EachAt, IsMessage, IsProcess, IsSeat, IsTold, Scene, Setting, Stands, awaited_of, live_in, record_of, request_in, seat_steps, sendings_so_far, steps_in, steps_with, ways_of}
+use Rattle.step_world.specs.Scaffold.Worlds.{Driving, EachAt, IsMessage, IsProcess, IsSeat, IsTold, Scene, Setting, awaited_of, live_in, record_of, request_in, seat_steps, sendings_so_far, steps_in, steps_with, ways_of}
 use Rattle.step_world.specs.declared.processes.DiskProcess.{DiskProcess}
 use Rattle.step_world.specs.declared.seats.Seat.{Seat}
 use Rattle.step_world.proofs.Opened.{way_at}
-use Rattle.step_world.proofs.Places.{get_back, get_map, some_get}
+use Rattle.step_world.proofs.Places.{get_back, get_map}
+use Rattle.step_world.proofs.Answering.{fresh_stands}
+use Rattle.sql_base.proofs.ListFacts.{some-at}
 
 -- a seat in which nothing has been done
 record IsFirst (script : Script) (at : ℕ) (s : Seat Asking) : Type 0 where
@@ -85,10 +87,6 @@ no_steps_in [] each (suc at) = refl
 no_steps_in (s ∷ seats) each (suc zero) = each 0 s refl
 no_steps_in (s ∷ seats) each (suc (suc at)) = no_steps_in seats (λ i y found. each (suc i) y found) (suc at)
 
-first_stands : (s : Seat Asking) (o : Option Sending) → s.losses ≡ 0 → s.waits ≡ false → Stands s o
-first_stands s None losses waits = (losses, waits)
-first_stands s (Some r) losses waits = (omega (arith, losses), λ h. omega (arith, losses), λ h. omega (arith, losses))
-
 module _ (script : Script) (choices : List ℕ) (told : List Telling) where
   abbrev setting : Setting
   setting = record { script = script; choices = choices; told = told }
@@ -109,7 +107,7 @@ module _ (script : Script) (choices : List ℕ) (told : List Telling) where
         script = is.new.script_is;
         asking = is.new.asking;
         one = is.new.one;
-        stands = first_stands s (request_in s.requester.way) is.losses is.waits;
+        stands = fresh_stands s (request_in s.requester.way) is.losses is.waits;
         waits = sym (ap (λ (b : Bool). if b then option_map awaited_of (request_in s.requester.way) else None) is.waits);
         noted = λ r here. sym is.unserved;
         told = first_told at s is;
@@ -142,7 +140,7 @@ module _ (script : Script) (choices : List ℕ) (told : List Telling) where
 
     asks_at : (at : ℕ) → suc at ≤ length script.sessions → Asks script (suc at) [] (way_of (ways_of w) (suc at))
     asks_at at most =
-        let some = some_get w.seats at (omega (arith, most, many)) in
+        let some = some-at w.seats at (omega (arith, most, many)) in
         let s = some.0 in
         let a = (firsts at s some.1).new in
         let its : Asks s.requester.script s.requester.number s.requester.log s.requester.way = a.asking.asks in

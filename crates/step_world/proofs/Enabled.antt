@@ -1,8 +1,8 @@
 -- Who is enabled, place by place.
-use Rattle.std.proofs.Common.{◌≡◌, ◌<◌, ◌+◌, ◌-◌, ℕ, zero, suc, List, [], ◌∷◌, ◌++◌, length, map, get_or, Option, Bool, true, false, cond, refl, ap, sym, ◌∙◌, arith}
+use Rattle.std.proofs.Common.{◌≡◌, ◌<◌, ◌+◌, ◌-◌, ℕ, List, [], ◌∷◌, ◌++◌, length, map, get_or, Option, Bool, true, false, cond, refl, ap, sym, ◌∙◌, arith}
 use Rattle.std.specs.Prelude.{filter, option_map, slice_get, unwrap_or}
 use Rattle.std.specs.List.{range_with_len}
-use Rattle.std.proofs.lemmas.List.{append-nil, append_assoc}
+use Rattle.std.proofs.lemmas.List.{append-nil, append_assoc, map-append}
 use Rattle.std.proofs.lemmas.List.Elements.{filter-append}
 use Rattle.requester_fs.specs.Asking.{Asking}
 use Rattle.driver_laws.specs.Scheduling.{OfPartition, OfSession}
@@ -14,22 +14,12 @@ use Rattle.step_world.specs.declared.processes.DiskProcess.{DiskProcess}
 use Rattle.step_world.specs.declared.seats.Seat.{Seat}
 use Rattle.step_world.proofs.Handed.{process_at}
 use Rattle.step_world.proofs.Places.{get_map}
-
-range_more : (a n : ℕ) → range_with_len a (n + 1) ≡ range_with_len a n ++ (a + n) ∷ []
-range_more a zero = let same : a ≡ a + 0 = omega arith in ap (λ m. m ∷ []) same
-range_more a (suc n) =
-    let long : suc n + 1 ≡ suc (n + 1) = omega arith in
-    let last : (a + 1) + n ≡ a + suc n = omega arith in
-    ap (range_with_len a) long ∙ ap (λ ms. a ∷ ms) (range_more (a + 1) n ∙ ap (λ m. range_with_len (a + 1) n ++ m ∷ []) last)
-
-map_append : {X Y : Type 0} (f : X → Y) (xs ys : List X) → map f (xs ++ ys) ≡ map f xs ++ map f ys
-map_append f [] ys = refl
-map_append f (x ∷ xs) ys = ap (λ zs. f x ∷ zs) (map_append f xs ys)
+use Rattle.sql_base.proofs.ListFacts.{range-push}
 
 -- one place more
 pub enabled_more : {Y : Type 0} (f : ℕ → Y) (p : ℕ → Bool) (a n : ℕ) → map f (filter p (range_with_len a (n + 1))) ≡ map f (filter p (range_with_len a n)) ++ map f (cond (p (a + n)) ((a + n) ∷ []) [])
 enabled_more f p a n =
-    ap (λ ms. map f (filter p ms)) (range_more a n) ∙ ap (map f) (filter-append p (range_with_len a n) ((a + n) ∷ [])) ∙ map_append f (filter p (range_with_len a n)) (cond (p (a + n)) ((a + n) ∷ []) [])
+    ap (λ ms. map f (filter p ms)) (range-push a n) ∙ ap (map f) (filter-append p (range_with_len a n) ((a + n) ∷ [])) ∙ map-append f (filter p (range_with_len a n)) (cond (p (a + n)) ((a + n) ∷ []) [])
 
 module _ {Y : Type 0} (f : ℕ → Y) (p : ℕ → Bool) (a n m : ℕ) (place : a + n ≡ m) (old before now : List Y) (so_far : before ≡ old ++ map f (filter p (range_with_len a n))) where
   more : map f (filter p (range_with_len a (n + 1))) ≡ map f (filter p (range_with_len a n)) ++ map f (cond (p m) (m ∷ []) [])
@@ -65,5 +55,5 @@ of_partitions (n ∷ ns) = ap (λ xs. OfPartition n ∷ xs) (of_partitions ns)
 
 pub all_actors : (first second third : List Agent) (ns ms : List ℕ) → first ≡ [] → second ≡ first ++ map Session ns → third ≡ second ++ map Partition ms → map actor_seen third ≡ map OfSession ns ++ map OfPartition ms
 all_actors first second third ns ms none sessions partitions =
-    ap (map actor_seen) (partitions ∙ ap (λ xs. xs ++ map Partition ms) (sessions ∙ ap (λ xs. xs ++ map Session ns) none)) ∙ map_append actor_seen (map Session ns) (map Partition ms)
+    ap (map actor_seen) (partitions ∙ ap (λ xs. xs ++ map Partition ms) (sessions ∙ ap (λ xs. xs ++ map Session ns) none)) ∙ map-append actor_seen (map Session ns) (map Partition ms)
     ∙ (λ i. of_sessions ns i ++ of_partitions ms i)

@@ -1,7 +1,6 @@
 -- From what calls ensure to what an action keeps.
 use Rattle.std.proofs.Common.{◌≡◌, ◌<◌, ℕ, zero, suc, List, [], ◌∷◌, length, map, get_or, Some, Ok, Err, false, refl, ap, sym, ◌∙◌, subst, arith}
 use Rattle.std.specs.Prelude.{Result, OnOk, ◌==◌, slice_get, slice_set}
-use Rattle.std.specs.List.{AllByRecursion}
 use Rattle.std.proofs.lemmas.Bool.{eqb-false}
 use Rattle.std.proofs.lemmas.Option.{slice_get_within}
 use Rattle.std.proofs.lemmas.List.{length-map}
@@ -14,12 +13,6 @@ use Rattle.step_world.specs.Scaffold.Seats.{IsOut, MayFail}
 use Rattle.step_world.specs.Scaffold.Worlds.{AreLater, IsLater, Scene, Stands}
 use Rattle.step_world.specs.declared.seats.Outgoing.{Outgoing}
 use Rattle.step_world.specs.declared.seats.Seat.{Seat}
-
--- what holds of all holds at a place
-pub all_at : {X : Type 0} (P : X → Type 0) (xs : List X) (at : ℕ) (x : X) → AllByRecursion P xs → slice_get xs at ≡ Some x → P x
-all_at P [] at x all is = absurd (cc)
-all_at P (y ∷ xs) zero x all is = let same : y ≡ x = cc in subst P same all.0
-all_at P (y ∷ xs) (suc at) x all is = all_at P xs at x all.1 is
 
 -- a place of a list is within what it was made of
 pub within_map : {X Y : Type 0} (f : X → Y) (xs : List X) (at : ℕ) (y : Y) → slice_get (map f xs) at ≡ Some y → at < length xs

@@ -32,7 +32,7 @@ use Rattle.driver_laws.specs.Scheduling.{Adds, Lost, OfSession, mail_after}
 use Rattle.driver_laws.proofs.Adding.{adds_hand_new, adds_hand_old}
 use Rattle.driver_laws.proofs.Moving.{later, served as served_so_far, taken}
 use Rattle.driver_laws.proofs.Picking.{answer_fits, never_passed, served_before}
-use Rattle.driver_laws.proofs.Seats.{length_set, seat_same}
+use Rattle.driver_laws.proofs.Seats.{seat_same}
 use Rattle.driver_laws.proofs.Starting.{by_hand}
 use Rattle.step_world.specs.Scaffold.Mails.{CanReply, Handles}
 use Rattle.step_world.specs.Scaffold.Seats.{IsAnswered, turn_of}
@@ -46,9 +46,10 @@ use Rattle.step_world.proofs.Answering.{answered_on, log_is, log_now, many, no_s
 use Rattle.step_world.proofs.Handled.{came_on, histories_on, is_next, replayed_on, unmarked_on}
 use Rattle.step_world.proofs.Opened.{OpenSeat, is_posted, lies_at, turn_hand, way_at}
 use Rattle.step_world.proofs.Places.{each_set, get_set_same, map_set_same}
-use Rattle.step_world.proofs.Replies.{all_in, fits_it, may_answer, opener_is, spelled_it, unmarked_at, within_histories}
+use Rattle.step_world.proofs.Replies.{fits_it, may_answer, opener_is, spelled_it, unmarked_at, within_histories}
 use Rattle.step_world.proofs.Staying.{mail_on, mail_one, process_stays}
 use Rattle.step_world.proofs.Taking.{told_answered}
+use Rattle.sql_base.proofs.ListFacts.{length-set, all_in}
 
 module _ (setting : Setting) (tellings : List Telling) (w : Scene) (at : ℕ) (s : Seat Asking) (o : OpenSeat w at s) (d : DiskProcess) (run : Driving setting tellings w) (found : slice_get w.processes o.r.part ≡ Some d) (turns : turn_of s ≡ turn.ServeByHand) where
   abbrev n : ℕ
@@ -120,7 +121,7 @@ module _ (setting : Setting) (tellings : List Telling) (w : Scene) (at : ℕ) (s
     )
 
     within_new : o.r.part < length (with_entry (record_of w) o.r.part en).histories
-    within_new = let long = length_set (record_of w).histories o.r.part (history_of (record_of w) o.r.part ++ en ∷ []) in let less = within in omega arith
+    within_new = let long = length-set (record_of w).histories o.r.part (history_of (record_of w) o.r.part ++ en ∷ []) in let less = within in omega arith
 
     fits_new : fits o.r.request.ask en.reply ≡ true
     fits_new =
@@ -129,10 +130,8 @@ module _ (setting : Setting) (tellings : List Telling) (w : Scene) (at : ℕ) (s
     spelled_new : IsReply en.reply
     spelled_new =
         let is = run.processes o.r.part d found in
-        all_in (λ (x : Entry). IsReply x.reply) (k.history ++ en ∷ []) en
-        (histories_spelled setting.script o.r.part k.opening (k.history ++ en ∷ []) run.so_far.script_runs is.opened (replayed_on setting tellings w o.r.part d run found n o.r.sync o.r.request o.spelled new).legal
+        all_in (λ (x : Entry). IsReply x.reply) en (k.history ++ en ∷ []) (Contains-append_right k.history (en ∷ []) en (zero, omega arith, refl)) (histories_spelled setting.script o.r.part k.opening (k.history ++ en ∷ []) run.so_far.script_runs is.opened (replayed_on setting tellings w o.r.part d run found n o.r.sync o.r.request o.spelled new).legal
         (came_on setting tellings w o.r.part d run found n o.r.sync o.r.request o.spelled new)).1
-        (Contains-append_right k.history (en ∷ []) en (zero, omega arith, refl))
 
   -- the reply that is kept fits and can be spelled
   pub handed_fits : (after : Kept) (reply : PartitionReply) → Handles k n o.r.sync o.r.request after → (opener_in after n).kept ≡ Some reply → (fits o.r.request.ask reply ≡ true) × IsReply reply

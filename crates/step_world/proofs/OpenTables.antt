@@ -6,31 +6,23 @@ use Rattle.std.proofs.lemmas.Bool.Decides.{nat_tests}
 use Rattle.std.proofs.lemmas.List.{append-nil, length-take-le, take_more}
 use Rattle.std.proofs.lemmas.List.Elements.{filter_more}
 use Rattle.std.proofs.lemmas.List.FromFn.{length-map-range_with_len, map-range_with_len_more}
-use Rattle.sql_base.specs.Keys.{Rise}
 use Rattle.sql_base.specs.Rows.{AreRecords, IsRow, key_of}
 use Rattle.sql_base.specs.declared.scripts.Limits.{Limits}
 use Rattle.sql_base.specs.declared.tables.TableDef.{TableDef}
 use Rattle.sql_base.specs.declared.values.Value.{Value}
-use Rattle.key_sequenced.specs.Cells.{AreCells}
 use Rattle.partition_map.specs.Map.{part_of}
-use Rattle.partition_state.specs.State.{State, new_cell, opening}
+use Rattle.partition_state.specs.State.{State, opening}
 use Rattle.run_record.specs.Openings.{openings_from, rows_in_part}
-use Rattle.serial_laws.proofs.Opened.{sound-opening}
+use Rattle.serial_laws.proofs.Opened.{rise-rows, sound-opening}
 use Rattle.step_world.specs.Scaffold.Openings.{AreOpened, is_opened, table_openings}
 use Rattle.step_world.specs.declared.processes.DiskProcess.{DiskProcess}
 use Rattle.sql_base.proofs.ListFacts.{all-filter}
-
--- the keys of rows are those of their cells
-rise_rows : (table : TableDef) (rows : List (List Value)) → AreCells (map (new_cell table) rows) → Rise (map (key_of table) rows)
-rise_rows table [] h = tt
-rise_rows table (row ∷ []) h = tt
-rise_rows table (row ∷ other ∷ rows) h = (h.0, rise_rows table (other ∷ rows) h.1)
 
 -- the records of a table that lie in one partition are records of it
 pub part_records : (limits : Limits) (table : TableDef) (place : ℕ) (rows : List (List Value)) → AreRecords table rows → AreRecords table (rows_in_part table place rows)
 part_records limits table place rows are =
     let sound = sound-opening table place limits rows are in
-    (all-filter (IsRow table) (λ row. part_of table (key_of table row) == place) rows are.0, rise_rows table (rows_in_part table place rows) sound.keeps.cells.rise)
+    (all-filter (IsRow table) (λ row. part_of table (key_of table row) == place) rows are.0, rise-rows table (rows_in_part table place rows) sound.keeps.cells.rise)
 
 -- one process behind the others
 one_behind : (states : List State) (processes : List DiskProcess) (p : State) (d : DiskProcess) → AreOpened states processes → is_opened p d → AreOpened (states ++ p ∷ []) (processes ++ d ∷ [])

@@ -37,11 +37,9 @@ use Rattle.step_world.specs.Scaffold.Worlds.{Driving, Scene, Setting, Stands, aw
 use Rattle.step_world.specs.declared.processes.DiskProcess.{DiskProcess}
 use Rattle.step_world.specs.declared.seats.Seat.{Seat}
 use Rattle.step_world.proofs.Opened.{OpenSeat, log_at, opened_at, way_at}
-use Rattle.step_world.proofs.Places.{any_one, fold_one, some_get, within_get}
-
-or_true : (b : Bool) → (b || true) ≡ true
-or_true true = refl
-or_true false = refl
+use Rattle.step_world.proofs.Places.{any_one, fold_one}
+use Rattle.sql_base.proofs.ListFacts.{all_places, some-at, place-within}
+use Rattle.sql_base.proofs.Truths.{or-true}
 
 -- what a session waits for was served, or its message lies in the mail
 module _ (n : ℕ) (v : Awaited) where
@@ -55,13 +53,13 @@ module _ (n : ℕ) (v : Awaited) where
   any_left xs ys h = list_any-append is_its xs ys ∙ ap (λ (b : Bool). b || list_any is_its ys) h
 
   any_right : (xs ys : List Posted) → list_any is_its ys ≡ true → list_any is_its (xs ++ ys) ≡ true
-  any_right xs ys h = list_any-append is_its xs ys ∙ ap (λ (b : Bool). list_any is_its xs || b) h ∙ or_true (list_any is_its xs)
+  any_right xs ys h = list_any-append is_its xs ys ∙ ap (λ (b : Bool). list_any is_its xs || b) h ∙ or-true (list_any is_its xs)
 
   served_on : (done : List Act) (act : Act) → list_any (is_serve_of n v) done ≡ true → list_any (is_serve_of n v) (done ++ act ∷ []) ≡ true
   served_on done act h = any_one (is_serve_of n v) done act ∙ ap (λ (b : Bool). b || is_serve_of n v act) h
 
   served_now : (done : List Act) (act : Act) → is_serve_of n v act ≡ true → list_any (is_serve_of n v) (done ++ act ∷ []) ≡ true
-  served_now done act h = any_one (is_serve_of n v) done act ∙ ap (λ (b : Bool). list_any (is_serve_of n v) done || b) h ∙ or_true (list_any (is_serve_of n v) done)
+  served_now done act h = any_one (is_serve_of n v) done act ∙ ap (λ (b : Bool). list_any (is_serve_of n v) done || b) h ∙ or-true (list_any (is_serve_of n v) done)
 
   in_mail : (done : List Act) (act : Act) → list_any is_its (mailed v.part (mail_after v.part done) act) ≡ true → Comes (done ++ act ∷ [])
   in_mail done act h = inr (ap (list_any is_its) (fold_one (mailed v.part) [] done act) ∙ h)
@@ -212,10 +210,6 @@ rows_by_part (p ∷ ps) (d ∷ ds) each =
     let rest = rows_by_part ps ds (λ part e found. each (suc part) e found) in
     (λ i. here i ∷ rest i)
 
-all_of_each : {X : Type 0} (P : X → Type 0) (xs : List X) → ((at : ℕ) (x : X) → slice_get xs at ≡ Some x → P x) → AllByRecursion P xs
-all_of_each P [] each = tt
-all_of_each P (x ∷ xs) each = (each 0 x refl, all_of_each P xs (λ at y found. each (suc at) y found))
-
 module _ (setting : Setting) (tellings : List Telling) (w : Scene) (run : Driving setting tellings w)
     (over : actors (live_in w.seats) (length (record_of w).logs) (length (record_of w).histories) w.acts [] ≡ []) where
   sessions_rest : (at : ℕ) → at < length w.seats → (is_unfinished (live_in w.seats) [] (suc at) && may_go (suc at) w.acts) ≡ false
@@ -255,7 +249,7 @@ module _ (setting : Setting) (tellings : List Telling) (w : Scene) (run : Drivin
     where
       rests : (has_some s.requester.way && may_go (suc at) w.acts) ≡ false
       rests =
-          ap (λ (o : Option (Seat Asking)). unwrap_or (option_map (λ x. has_some x.requester.way) o) false && may_go (suc at) w.acts) (sym here) ∙ sessions_rest at (within_get w.seats at s here)
+          ap (λ (o : Option (Seat Asking)). unwrap_or (option_map (λ x. has_some x.requester.way) o) false && may_go (suc at) w.acts) (sym here) ∙ sessions_rest at (place-within w.seats at s here)
 
       none_awaited : (b : Bool) → cond b (option_map awaited_of None) None ≡ None
       none_awaited true = refl
@@ -269,13 +263,13 @@ module _ (setting : Setting) (tellings : List Telling) (w : Scene) (run : Drivin
           absurd (false≢true (sym h ∙ ap (is_served (suc at) w.acts) none))
 
   pub all_seats : AllByRecursion (λ (s : Seat Asking). s.requester.way ≡ Awaiting []) w.seats
-  all_seats = all_of_each (λ (s : Seat Asking). s.requester.way ≡ Awaiting []) w.seats all_finished
+  all_seats = all_places (λ (s : Seat Asking). s.requester.way ≡ Awaiting []) w.seats all_finished
 
   seat_of : (at : ℕ) → Lies 1 (length setting.script.sessions) (suc at) → (s : Seat Asking) × (slice_get w.seats at ≡ Some s)
   seat_of at lies =
       let logs = length-map w.seats (λ (s : Seat Asking). s.requester.log) in
       let sessions = run.so_far.logs_begin.logs in
-      some_get w.seats at (omega (arith, lies.1, logs, sessions))
+      some-at w.seats at (omega (arith, lies.1, logs, sessions))
 
   ways_empty : (n : ℕ) → Lies 1 (length setting.script.sessions) n → way_of (ways_of w) n ≡ Awaiting []
   ways_empty zero lies = absurd (omega (arith, lies.0))
@@ -332,8 +326,8 @@ module _ (setting : Setting) (tellings : List Telling) (w : Scene) (run : Drivin
   all_carried wires (suc at) t lies told =
       let place : suc at - 1 ≡ at = omega arith in
       let logs = length-map w.seats (λ (x : Seat Asking). x.requester.log) in
-      let s = some_get w.seats at (omega (arith, lies.1, logs)) in
-      let now = some_get tellings at (omega (arith, lies.1, logs, wires)) in
+      let s = some-at w.seats at (omega (arith, lies.1, logs)) in
+      let now = some-at tellings at (omega (arith, lies.1, logs, wires)) in
       let is = run.seats at s.0 s.1 in
       let stands : Stands s.0 None = subst (Stands s.0) (ap request_in (all_finished at s.0 s.1)) is.stands in
       let none : sendings_so_far s.0 ≡ [] = (λ i. replicate (stands.0 i) true ++ cond (stands.1 i) (false ∷ []) []) in

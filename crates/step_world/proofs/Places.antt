@@ -1,5 +1,5 @@
 -- Lists in which one place is changed, and facts of each place.
-use Rattle.std.proofs.Common.{◌≡◌, ◌≢◌, ◌<◌, ℕ, zero, suc, List, [], ◌∷◌, ◌++◌, length, map, Some, Bool, true, false, refl, ap, sym, ◌∙◌, subst, arith}
+use Rattle.std.proofs.Common.{◌≡◌, ◌≢◌, ◌<◌, ℕ, zero, suc, List, [], ◌∷◌, ◌++◌, map, Some, Bool, true, false, refl, ap, sym, ◌∙◌, subst}
 use Rattle.std.specs.Prelude.{fold, slice_get, slice_set, ◌||◌, ◌⊎◌}
 use Rattle.std.proofs.Common.{inl, inr}
 use Rattle.std.proofs.lemmas.List.Folds.{list_any-append}
@@ -24,16 +24,6 @@ module _ {X : Type 0} where
   get_set_other (z ∷ xs) zero (suc j) y differ = refl
   get_set_other (z ∷ xs) (suc i) zero y differ = refl
   get_set_other (z ∷ xs) (suc i) (suc j) y differ = get_set_other xs i j y (λ same. differ (ap suc same))
-
-  pub within_get : (xs : List X) (i : ℕ) (x : X) → slice_get xs i ≡ Some x → i < length xs
-  within_get [] i x is = absurd (cc)
-  within_get (z ∷ xs) zero x is = omega arith
-  within_get (z ∷ xs) (suc i) x is = let less = within_get xs i x is in omega arith
-
-  pub some_get : (xs : List X) (i : ℕ) → i < length xs → (x : X) × (slice_get xs i ≡ Some x)
-  some_get [] i less = absurd (omega arith)
-  some_get (z ∷ xs) zero less = (z, refl)
-  some_get (z ∷ xs) (suc i) less = some_get xs i (omega arith)
 
   pub each_set : (P Q : ℕ → X → Type 0) (xs : List X) (at : ℕ) (x y : X) → slice_get xs at ≡ Some x → Q at y → ((i : ℕ) (z : X) → i ≢ at → slice_get xs i ≡ Some z → P i z → Q i z) → EachAt P xs → EachAt Q (slice_set xs at y)
   each_set P Q xs at x y here own others each i z found = decide (same_or i at)

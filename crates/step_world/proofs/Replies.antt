@@ -1,7 +1,6 @@
 -- What a partition keeps for a session.
-use Rattle.std.proofs.Common.{◌≡◌, ◌≤◌, ◌<◌, ◌-◌, ℕ, zero, suc, List, [], ◌∷◌, length, get_or, Option, Some, None, Bool, true, false, cond, refl, ap, sym, ◌∙◌, subst, arith}
+use Rattle.std.proofs.Common.{◌≡◌, ◌≤◌, ◌<◌, ◌-◌, ℕ, zero, suc, List, [], ◌∷◌, length, Option, Some, None, Bool, true, false, cond, refl, ap, sym, ◌∙◌, subst, arith}
 use Rattle.std.specs.Prelude.{Contains, slice_get, unwrap_or}
-use Rattle.std.specs.List.{AllByRecursion}
 use Rattle.std.proofs.lemmas.List.{length-map}
 use Rattle.std.proofs.lemmas.Option.{slice_get_within}
 use Rattle.sql_base.specs.Scripts.{Lies}
@@ -30,14 +29,7 @@ use Rattle.step_world.specs.declared.seats.Seat.{Seat}
 use Rattle.step_world.proofs.Marks.{none_at}
 use Rattle.step_world.proofs.Opened.{OpenSeat, lies_at, way_at}
 use Rattle.step_world.proofs.Places.{get_map}
-
-pub all_in : {X : Type 0} (P : X → Type 0) (xs : List X) (x : X) → AllByRecursion P xs → Contains xs x → P x
-all_in P [] x all is_in = absurd (omega (arith, is_in.1))
-all_in P (y ∷ xs) x all is_in = at is_in.0 is_in.1 is_in.2 (λ h. all_in P xs x all.1 h)
-  where
-    at : (k : ℕ) → k < length (y ∷ xs) → get_or (y ∷ xs) k x ≡ x → (Contains xs x → P x) → P x
-    at zero lt is behind = subst P is all.0
-    at (suc k) lt is behind = behind (k, omega (arith, lt), is)
+use Rattle.sql_base.proofs.ListFacts.{all_in}
 
 module _ (setting : Setting) (tellings : List Telling) (w : Scene) (part : ℕ) (d : DiskProcess) (run : Driving setting tellings w) (found : slice_get w.processes part ≡ Some d) where
   pub history_is : history_of (record_of w) part ≡ d.partition.history
@@ -93,7 +85,7 @@ module _ (setting : Setting) (tellings : List Telling) (w : Scene) (at : ℕ) (s
       let is = run.processes o.r.part d found in
       let all = (histories_spelled setting.script o.r.part d.partition.opening d.partition.history run.so_far.script_runs is.opened is.replayed.legal is.came).1 in
       let is_in = subst (λ (es : List Entry). Contains es may.0) (history_is setting tellings w o.r.part d run found) may.1 in
-      subst IsReply may.4 (all_in (λ (e : Entry). IsReply e.reply) d.partition.history may.0 all is_in)
+      subst IsReply may.4 (all_in (λ (e : Entry). IsReply e.reply) may.0 d.partition.history is_in all)
 
   pub comes_it : (losses : ℕ) (reply : PartitionReply) → losses ≤ 3 → MayAnswer (record_of w) (suc at) o.r losses (Reply reply) → MayCome (next_at s.requester.way 0) (Reply reply) losses
   comes_it losses reply few may = subst (λ next. MayCome next (Reply reply) losses) (sym o.sends) (at_most (is_end o.r.request.ask), fits_it losses reply may)

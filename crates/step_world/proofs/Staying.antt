@@ -1,5 +1,5 @@
 -- Sessions that don't act, and partitions whose mail an act doesn't touch.
-use Rattle.std.proofs.Common.{◌≡◌, ◌≢◌, ℕ, suc, List, [], ◌∷◌, ◌++◌, length, Option, None, Bool, true, false, refl, ap, sym, ◌∙◌, subst}
+use Rattle.std.proofs.Common.{◌≡◌, ◌≢◌, ℕ, suc, List, [], ◌∷◌, ◌++◌, length, Option, None, Bool, false, refl, ap, sym, ◌∙◌, subst}
 use Rattle.std.specs.Prelude.{◌||◌, ◌==◌, slice_get}
 use Rattle.std.specs.List.{AllByRecursion, AllZip, list_any}
 use Rattle.std.proofs.lemmas.List.{append-nil}
@@ -22,6 +22,7 @@ use Rattle.step_world.specs.Scaffold.Worlds.{IsMessage, IsProcess, IsSeat, Setti
 use Rattle.step_world.specs.declared.processes.DiskProcess.{DiskProcess}
 use Rattle.step_world.specs.declared.seats.Seat.{Seat}
 use Rattle.step_world.proofs.Places.{any_one, fold_one, zip_map}
+use Rattle.sql_base.proofs.Truths.{or-false}
 
 -- what was posted before an act is posted still
 abbrev pub StillPosted : ℕ → RunRecord → List UnderWay → RunRecord → List UnderWay → Type 0
@@ -91,13 +92,9 @@ passages_other n (ByHand session part sync) h = refl
 passages_other n (Draw session) h = refl
 passages_other n (Serve part opener sync) h = refl
 
-or_false : (b : Bool) → (b || false) ≡ b
-or_false true = refl
-or_false false = refl
-
 -- no Serve of a session's request more
 pub unserved : (n : ℕ) (v : Awaited) (acts : List Act) (act : Act) → is_serve_of n v act ≡ false → list_any (is_serve_of n v) (acts ++ act ∷ []) ≡ list_any (is_serve_of n v) acts
-unserved n v acts act h = any_one (is_serve_of n v) acts act ∙ ap (λ (b : Bool). list_any (is_serve_of n v) acts || b) h ∙ or_false (list_any (is_serve_of n v) acts)
+unserved n v acts act h = any_one (is_serve_of n v) acts act ∙ ap (λ (b : Bool). list_any (is_serve_of n v) acts || b) h ∙ or-false (list_any (is_serve_of n v) acts)
 
 pub seat_stays : (setting : Setting) (tellings after : List Telling) (acts : List Act) (act : Act) (at : ℕ) (s : Seat Asking) → is_by (suc at) act ≡ false → ((v : Awaited) → is_serve_of (suc at) v act ≡ false)
     → slice_get after at ≡ slice_get tellings at → IsSeat setting tellings acts at s → IsSeat setting after (acts ++ act ∷ []) at s

@@ -18,7 +18,7 @@ use Rattle.step_world.specs.declared.choosing.Agent.TheVariants.{Partition, Sess
 use Rattle.step_world.specs.declared.processes.DiskProcess.{DiskProcess}
 use Rattle.step_world.specs.declared.seats.Seat.{Seat}
 use Rattle.step_world.specs.declared.seats.Turn.TheVariants.{Send, Take, ServeByHand, Wait}
-use Rattle.step_world.proofs.Places.{some_get}
+use Rattle.sql_base.proofs.ListFacts.{some-at}
 
 -- a session acts where it has something under way and doesn't wait for a reply that isn't there
 acts_with : (n : ℕ) (acts : List Act) (s : Seat Asking) (way : UnderWay) → awaited n acts ≡ (if s.waits then option_map awaited_of (request_in way) else None)
@@ -39,7 +39,7 @@ acts_with n acts s (Drawing name floor) waits noted = sym (ap (is_served n acts)
 
 acts_same : (setting : Setting) (tellings : List Telling) (w : Scene) → Driving setting tellings w → (at : ℕ) → at < length w.seats → acts_at w.seats (suc at) ≡ (is_unfinished (live_in w.seats) [] (suc at) && may_go (suc at) w.acts)
 acts_same setting tellings w run at less =
-    let some = some_get w.seats at less in
+    let some = some-at w.seats at less in
     let s : Seat Asking = some.0 in
     let is = run.seats at s some.1 in
     let place : suc at - 1 ≡ at = omega arith in
@@ -57,7 +57,7 @@ zip_some R (m ∷ ms) (b ∷ bytes) all = refl
 
 mail_same : (setting : Setting) (tellings : List Telling) (w : Scene) → Driving setting tellings w → (part : ℕ) → part < length w.processes → mail_at w.processes part ≡ is_some (mail_after part w.acts)
 mail_same setting tellings w run part less =
-    let some = some_get w.processes part less in
+    let some = some-at w.processes part less in
     let d : DiskProcess = some.0 in
     ap (λ (o : Option DiskProcess). unwrap_or (option_map has_mail o) false) some.1
     ∙ zip_some (IsMessage (length setting.script.sessions) (record_of w) (ways_of w) part) (mail_after part w.acts) d.mail (run.processes part d some.1).mail
@@ -141,5 +141,5 @@ pub nobody_chosen : (choices : List ℕ) (place : ℕ) (some : List Actor) → c
 nobody_chosen choices place [] none = refl
 nobody_chosen choices place (a ∷ some) none =
     let number = unwrap_or (slice_get choices place) 0 in
-    let found = some_get (a ∷ some) (number % length (a ∷ some)) (mod_below number (length (a ∷ some)) (omega arith)) in
+    let found = some-at (a ∷ some) (number % length (a ∷ some)) (mod_below number (length (a ∷ some)) (omega arith)) in
     absurd (cc (sym found.1 ∙ none))

@@ -15,7 +15,7 @@ pub found_has : {X : Type 0} (P : X → Type 0) (p : X → Bool) (xs : List X) (
 found_has P p [] x h e = absurd (cc)
 found_has P p (y ∷ xs) x h e = found_at P x y (find p xs) (p y) h.0 (λ later. found_has P p xs x h.1 later) e
 
-none-filter : {X : Type 0} (test p : X → Bool) (xs : List X) → list_any test xs ≡ false → list_any test (filter p xs) ≡ false
+pub none-filter : {X : Type 0} (test p : X → Bool) (xs : List X) → list_any test xs ≡ false → list_any test (filter p xs) ≡ false
 none-filter test p [] h = refl
 none-filter test p (x ∷ xs) h =
     let rest = none-filter test p xs (or_right (test x) _ h) in

@@ -8,6 +8,7 @@ use Rattle.std.proofs.lemmas.List.Filters.{length-filter_both}
 use Rattle.subset_blocks.specs.Blocks.{free_number}
 use Rattle.subset_blocks.specs.declared.Numbered.{Numbered}
 use Rattle.sql_base.proofs.Truths.{not-false, not-true}
+use Rattle.sql_base.proofs.ListFacts.{found_passes}
 
 -- the number is that of a block
 abbrev has : {W : Type 0} → List (Numbered W) → ℕ → Bool
@@ -57,10 +58,6 @@ find-passes_at : (p : ℕ → Bool) (x : ℕ) (xs : List ℕ) (n : ℕ) (b : Boo
 find-passes_at p x xs n true e h rest = let same : x ≡ n = cc in ap p (sym same) ∙ e
 find-passes_at p x xs n false e h rest = rest h
 
-find-passes : (p : ℕ → Bool) (xs : List ℕ) (n : ℕ) → find p xs ≡ Some n → p n ≡ true
-find-passes p [] n h = absurd (cc)
-find-passes p (x ∷ xs) n h = find-passes_at p x xs n (p x) refl h (λ e. find-passes p xs n e)
-
 at_or_above : (p : ℕ → Bool) (a k : ℕ) (b : Bool) → eqb k a ≡ b → p a ≡ false → ((k ≡ a → ⊥) → p k ≡ false) → p k ≡ false
 at_or_above p a k true same e rest = let equal : k ≡ a = grind (arith, nat_tests) in ap p equal ∙ e
 at_or_above p a k false same e rest = rest (λ equal. false≢true (sym same ∙ eq-eqb k a equal))
@@ -75,7 +72,7 @@ none_passes p a zero h k low high = absurd (omega arith)
 none_passes p a (suc count) h k low high = none_passes_at p a count k low high (p a) refl h (λ e lower. none_passes p (a + 1) count e k lower (omega arith))
 
 free_at : {W : Type 0} (blocks : List (Numbered W)) (found : Option ℕ) → find (is_free blocks) (range_with_len 1 (length blocks + 1)) ≡ found → has blocks (unwrap_or found 0) ≡ false
-free_at blocks (Some n) e = not-true (has blocks n) (find-passes (is_free blocks) (range_with_len 1 (length blocks + 1)) n e)
+free_at blocks (Some n) e = not-true (has blocks n) (found_passes (is_free blocks) (range_with_len 1 (length blocks + 1)) n e)
 free_at blocks None e =
     let taken = all_taken (length blocks + 1) blocks (λ k low high. not-false (has blocks k) (none_passes (is_free blocks) 1 (length blocks + 1) e k low (omega arith))) in
     absurd (omega arith)

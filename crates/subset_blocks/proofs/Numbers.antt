@@ -12,7 +12,7 @@ use Rattle.sql_base.proofs.Truths.{or_left, or_right}
 gone_on-same : {W : Type 0} (n : ℕ) (last : List ℕ) (b : Numbered W) → b.number ≡ n → gone_on n last b ≡ record b { block = record b.block { start = After last } }
 gone_on-same n last b e = rw (eq-eqb b.number n e) refl
 
-gone_on-other : {W : Type 0} (n : ℕ) (last : List ℕ) (b : Numbered W) → eqb b.number n ≡ false → gone_on n last b ≡ b
+pub gone_on-other : {W : Type 0} (n : ℕ) (last : List ℕ) (b : Numbered W) → eqb b.number n ≡ false → gone_on n last b ≡ b
 gone_on-other n last b e = rw e refl
 
 -- where no block has the number, nothing goes on

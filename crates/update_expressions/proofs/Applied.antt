@@ -2,8 +2,7 @@
 use Rattle.std.proofs.Common.{◌≡◌, ◌<◌, ℕ, ◌+◌, zero, suc, List, [], ◌∷◌, length, drop, get_or, map, Some, true, Ok, Err, refl, ap, sym, subst, ◌∙◌}
 use Rattle.std.specs.Prelude.{slice_get, slice_set, option_map, unwrap_or, ◌==◌}
 use Rattle.std.proofs.lemmas.Bool.{and_parts, eqb-true}
-use Rattle.std.proofs.lemmas.List.{drop_more}
-use Rattle.std.proofs.lemmas.Option.{get_or_from_slice_get, same_Some, slice_get-map, slice_get_read, slice_get_within}
+use Rattle.std.proofs.lemmas.Option.{same_Some, slice_get-map, slice_get_read}
 use Rattle.sql_base.specs.Kinds.{Kind, OfNumber, OfText, OfTruth}
 use Rattle.sql_base.specs.OnRows.{assigned, stored, then_with}
 use Rattle.sql_base.specs.Rows.{is_of_kind, are_of_kinds, is_printable, kinds, padded, width, IsRow}
@@ -20,9 +19,7 @@ use Rattle.predicate_codes.proofs.Typed.{IsOf, val-typed}
 use Rattle.update_expressions.specs.Entries.{set_in}
 use Rattle.update_expressions.specs.Storing.{value_over}
 use Rattle.update_expressions.specs.declared.verifying.VerifiedSet.{VerifiedSet}
-
-drop_at_place : (sets : List Assign) (i : ℕ) (set : Assign) → slice_get sets i ≡ Some set → drop i sets ≡ set ∷ drop (i + 1) sets
-drop_at_place sets i set at = drop_more sets i set (slice_get_within sets i set at) ∙ ap (λ (s : Assign). s ∷ drop (i + 1) sets) (get_or_from_slice_get sets i set set at)
+use Rattle.sql_base.proofs.ListFacts.{drop-at}
 
 -- the assignment of a verified one at a place
 pub set_at : (sets : List VerifiedSet) (i : ℕ) (set : VerifiedSet) → i < length sets → set ≡ get_or sets i set → slice_get (map set_in sets) i ≡ Some (set_in set)
@@ -62,7 +59,7 @@ module _ (table : TableDef) (old : List Value) (is_old : IsRow table old) where
   assigned-goes sets i set item before new at assign value there =
       let of : IsOf assign.1 (Ok item) = subst (IsOf assign.1) value (val-typed table old is_old set.value assign.1 assign.5.typed) in
       let fits = value_at (kinds table) old set.column assign.0 before is_old assign.2 there in
-      sym (ap (λ (xs : List Assign). assigned table old xs new) (drop_at_place sets i set at)
+      sym (ap (λ (xs : List Assign). assigned table old xs new) (drop-at sets i set at)
       ∙ ap (λ o. then_with o (λ it. assigned table old (drop (i + 1) sets) (stored table set.column new it))) value
       ∙ ap (assigned table old (drop (i + 1) sets)) (sym (over set.column assign.0 assign.1 item before new assign.2 fits assign.4 of)))
 
@@ -70,5 +67,5 @@ module _ (table : TableDef) (old : List Value) (is_old : IsRow table old) where
 pub assigned-faults : (table : TableDef) (old : List Value) (sets : List Assign) (i : ℕ) (set : Assign) (fault : EvalFault) (new : List Value) → slice_get sets i ≡ Some set
     → val set.value old ≡ Err fault → assigned table old (drop i sets) new ≡ Err fault
 assigned-faults table old sets i set fault new at value =
-    ap (λ (xs : List Assign). assigned table old xs new) (drop_at_place sets i set at)
+    ap (λ (xs : List Assign). assigned table old xs new) (drop-at sets i set at)
     ∙ ap (λ o. then_with o (λ it. assigned table old (drop (i + 1) sets) (stored table set.column new it))) value

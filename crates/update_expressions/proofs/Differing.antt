@@ -9,10 +9,7 @@ use Rattle.std.proofs.lemmas.List.Folds.{list_any-append}
 use Rattle.std.proofs.lemmas.Map.Made.{length-le_from_is_member}
 use Rattle.std.proofs.lemmas.List.FromFn.{length-range_with_len}
 use Rattle.sql_base.specs.Tables.{all_differ}
-
-pub or_false : (a b : Bool) → (a || b) ≡ false → (a ≡ false) × (b ≡ false)
-or_false false b e = (refl, e)
-or_false true b e = absurd (cc)
+use Rattle.sql_base.proofs.Truths.{neither_holds}
 
 module _ {A : Type 0} (f : A → ℕ) where
   pub any-map : (test : ℕ → Bool) (xs : List A) → list_any (λ x. test (f x)) xs ≡ list_any test (map f xs)
@@ -30,14 +27,14 @@ pub differ-push : (xs : List ℕ) (y : ℕ) → all_differ nat_eq xs ≡ true �
 differ-push [] y differ new = refl
 differ-push (x ∷ xs) y differ new =
     let apart = and_parts (not (list_any (nat_eq x) xs)) (all_differ nat_eq xs) differ in
-    let others = or_false (nat_eq x y) (list_any (λ z. nat_eq z y) xs) new in
+    let others = neither_holds (nat_eq x y) (list_any (λ z. nat_eq z y) xs) new in
     let none : list_any (nat_eq x) (xs ++ y ∷ []) ≡ false =
     list_any-append (nat_eq x) xs (y ∷ []) ∙ ap (λ b. b || (nat_eq x y || false)) (not-true (list_any (nat_eq x) xs) apart.0) ∙ ap (λ b. b || false) others.0 in
     and_from (not (list_any (nat_eq x) (xs ++ y ∷ []))) (all_differ nat_eq (xs ++ y ∷ [])) (ap not none) (differ-push xs y apart.1 others.1)
 
 apart_from : (x : ℕ) (ys : List ℕ) → list_any (nat_eq x) ys ≡ false → AllByRecursion (λ y. nat_eq x y ≡ false) ys
 apart_from x [] none = tt
-apart_from x (y ∷ ys) none = let parts = or_false (nat_eq x y) (list_any (nat_eq x) ys) none in (parts.0, apart_from x ys parts.1)
+apart_from x (y ∷ ys) none = let parts = neither_holds (nat_eq x y) (list_any (nat_eq x) ys) none in (parts.0, apart_from x ys parts.1)
 
 distinct : (xs : List ℕ) → all_differ nat_eq xs ≡ true → IsDistinct nat_eq xs
 unfolding IsDistinct

@@ -75,9 +75,3 @@ module _ (table : TableDef) where
       ap (fault_behind table (take i sets)) (drop_more sets i set within ∙ ap (λ (s : Assign). s ∷ drop (i + 1) sets) (sym is))
       ∙ ap (λ (before : List Assign). option_or (set_fault table (take i sets) set) (fault_behind table before (drop (i + 1) sets)))
       (ap (λ (s : Assign). take i sets ++ s ∷ []) is ∙ sym (take_more sets i set within))
-
-pub or-some : (a b : Option SetFault) (fault : SetFault) → a ≡ Some fault → option_or a b ≡ Some fault
-or-some a b fault e = ap (λ o. option_or o b) e
-
-pub or-none : (a b : Option SetFault) → a ≡ None → option_or a b ≡ b
-or-none a b e = ap (λ o. option_or o b) e

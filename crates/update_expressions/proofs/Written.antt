@@ -1,5 +1,5 @@
 -- The code of a SET list, as it is written.
-use Rattle.std.proofs.Common.{◌≡◌, ◌≤◌, ◌<◌, ◌++◌, ℕ, ◌+◌, List, [], ◌∷◌, length, take, get_or, map, Bool, true, false, refl, ap, sym, ◌∙◌, arith}
+use Rattle.std.proofs.Common.{◌≡◌, ◌≤◌, ◌<◌, ◌++◌, ℕ, ◌+◌, List, [], ◌∷◌, length, take, get_or, map, true, ap, sym, ◌∙◌, arith}
 use Rattle.std.specs.Prelude.{flat_map, nat_eq, ◌||◌}
 use Rattle.std.specs.List.{AllByRecursion, list_any}
 use Rattle.std.proofs.lemmas.Bool.{eqb-true}
@@ -15,21 +15,16 @@ use Rattle.sql_base.specs.declared.tables.TableDef.{TableDef}
 use Rattle.predicate_codes.proofs.ExactSets.{entry}
 use Rattle.update_expressions.proofs.Differing.{few}
 use Rattle.update_expressions.proofs.Refused.{column_of}
+use Rattle.sql_base.proofs.Truths.{either}
 
 module _ (table : TableDef) where
   column_within : (set : Assign) → IsAssign table set → set.column < length table.columns
   column_within set is = omega (arith, slice_get_within (kinds table) set.column is.0 is.2, length-map table.columns (λ (c : Column). c.kind))
 
-  either : (a b : Bool) {P : Type 0} → (a || b) ≡ true → (a ≡ true → P) → (b ≡ true → P) → P
-  either true b e one other = one refl
-  either false b e one other = other e
-
   held_within : (sets : List Assign) → AllByRecursion (IsAssign table) sets → (c : ℕ) → list_any (nat_eq c) (map column_of sets) ≡ true → c < length table.columns
   held_within [] each c held = absurd (cc)
   held_within (set ∷ sets) each c held =
-      either (nat_eq c set.column) (list_any (nat_eq c) (map column_of sets)) held
-      (λ e. omega (arith, eqb-true c set.column e, column_within set each.0))
-      (held_within sets each.1 c)
+      either (nat_eq c set.column) (list_any (nat_eq c) (map column_of sets)) (λ e. omega (arith, eqb-true c set.column e, column_within set each.0)) (held_within sets each.1 c) held
 
   -- a SET list has no more assignments than the table has columns
   pub few_sets : (sets : List Assign) → AreSets table sets → length sets ≤ length table.columns

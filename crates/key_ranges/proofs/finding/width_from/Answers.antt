@@ -1,8 +1,9 @@
 use Rattle.std.proofs.Common.{ap, arith, length}
 use Rattle.range_finder.specs.Range.{key_columns}
 use Rattle.key_ranges.specs.Spans.{with_kind}
-use Rattle.key_ranges.proofs.Columns.{as_many, key_total, total-at, total-end, total-less}
+use Rattle.key_ranges.proofs.Columns.{as_many, total-at, total-end, total-less}
 use Rattle.key_ranges.proofs.finding.width_from.Goals as goal
+use Rattle.ranges_laws.proofs.Ranges.{key_total}
 
 pub overflow_add-sum : goal.overflow_add-sum
 overflow_add-sum c =

@@ -6,8 +6,8 @@ use Rattle.predicate_codes.specs.SetLists.{sets_of}
 use Rattle.quantum_core.specs.declared.works.Doing.TheVariants.{Update}
 use Rattle.partition_state.specs.Step.{set_work}
 use Rattle.partition_core.proofs.Coded.{no-doing, sets-none, sets-read}
-use Rattle.partition_core.proofs.Told.{if_both}
 use Rattle.partition_core.proofs.codes.read_update.Goals as goal
+use Rattle.quantum_runner.proofs.Walking.{if_both}
 
 pub returns-in-Ok-clause-work : goal.returns-in-Ok-clause-work
 returns-in-Ok-clause-work c =

@@ -2,10 +2,10 @@ use Rattle.std.proofs.Common.{rules, ◌≡◌, ◌<◌, ◌++◌, length, get_o
 use Rattle.std.proofs.lemmas.Option.{slice_get_read}
 use Rattle.sql_base.specs.Rows.{AreRecords}
 use Rattle.one_thread.specs.One.{load_rows}
-use Rattle.serial_laws.proofs.Opened.{load-records}
 use Rattle.step_world.specs.Scaffold.Openings.{AreOpened, table_openings}
 use Rattle.step_world.proofs.OpenTables.{openings_of, table_more}
 use Rattle.step_world.proofs.openings.open.Goals as goal
+use Rattle.one_thread.proofs.Loaded.{load-records}
 
 pub open_table-requires-clause-rows : goal.open_table-requires-clause-rows
 open_table-requires-clause-rows c =

@@ -3,8 +3,9 @@ use Rattle.subset_blocks.specs.Blocks.{free_number}
 use Rattle.partition_state.specs.Step.{begin_with}
 use Rattle.partition_core.specs.Scaffold.Contents.{parts_of, state_of}
 use Rattle.partition_core.specs.Scaffold.Firsts.{IsFirst, first_change, first_reply}
-use Rattle.partition_core.proofs.Told.{begins-told, if_both, told-by, walked-told}
+use Rattle.partition_core.proofs.Told.{begins-told, told-by, walked-told}
 use Rattle.partition_core.proofs.contents.Contents.begin_with.Goals as goal
+use Rattle.quantum_runner.proofs.Walking.{if_both}
 
 pub returns-in-Walked-clause-told : goal.returns-in-Walked-clause-told
 returns-in-Walked-clause-told c =

@@ -10,8 +10,9 @@ use Rattle.partition_core.specs.Scaffold.Contents.{parts_of, state_of}
 use Rattle.std.proofs.lemmas.Result.{IfOk-weaker}
 use Rattle.partition_core.specs.Scaffold.Changes.{IsFitting}
 use Rattle.partition_core.specs.Scaffold.Firsts.{next_change, next_reply}
-use Rattle.partition_core.proofs.Told.{goes-told, if_both, next-fits, next-told, told-by}
+use Rattle.partition_core.proofs.Told.{goes-told, next-fits, next-told, told-by}
 use Rattle.partition_core.proofs.contents.Contents.go_on.Goals as goal
+use Rattle.quantum_runner.proofs.Walking.{if_both}
 
 pub walk-requires-clause-work : goal.walk-requires-clause-work
 walk-requires-clause-work c =

@@ -7,8 +7,9 @@ use Rattle.partition_core.specs.declared.begins.First.TheVariants.{Barred, Walke
 use Rattle.subset_blocks.specs.declared.Block.{Block}
 use Rattle.quantum_core.specs.declared.works.SetWork.{SetWork}
 use Rattle.partition_core.proofs.SingleKeys.{single-ends}
-use Rattle.partition_core.proofs.Told.{BlockIs, Ends, first_block, if_both, key-barred, key-fits, key-told, key-walked, told-by}
+use Rattle.partition_core.proofs.Told.{BlockIs, Ends, first_block, key-barred, key-fits, key-told, key-walked, told-by}
 use Rattle.partition_core.proofs.contents.Contents.read_one.Goals as goal
+use Rattle.quantum_runner.proofs.Walking.{if_both}
 
 pub returns-in-Barred-clause-told : goal.returns-in-Barred-clause-told
 returns-in-Barred-clause-told c =
