@@ -103,7 +103,7 @@ fn change(
 {
     let range = key_range(alloc, filter.as_ref(), table)?;
     match change_range(alloc, table, statement, &range, cells, touched)? {
-        Ok(count) => Ok(Ok(Given::Count(count))),
+        Ok(count) => Ok(Ok(Given::Count(count as u128))),
         Err(abort) => Ok(Err(abort)),
     }
 }

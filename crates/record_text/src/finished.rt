@@ -144,19 +144,15 @@ fn entry_changed(entry: &LogEntry) -> u32
     }
 }
 
-// How many records a part changed. A log whose count needs more than 64 bits fits no memory.
-fn changed_by(entries: &[LogEntry]) -> Result<u64, NoMemory>
-    ensures { IfOk result (λ count. count ≡ sum (map entry_changed entries.now)) }
+// How many records a part changed.
+fn changed_by(entries: &[LogEntry]) -> u128
+    ensures { result ≡ sum (map entry_changed entries.now) }
 {
-    let mut count: u64 = 0;
+    let mut count = 0;
     for entry in entries {
-        let more = entry_changed(entry) as u64;
-        if count > u64::MAX - more {
-            return Err(NoMemory);
-        }
-        count += more;
+        count += entry_changed(entry) as u128;
     }
-    Ok(count)
+    count
 }
 
 fn kind_at(table: &TableDef, column: u8) -> Option<ColumnKind>
@@ -204,8 +200,8 @@ fn given_of(
             kinds: kinds_of(alloc, &tables[*table as usize], columns.items())?,
             rows: rows_of(alloc, sents, entries)?,
         }),
-        Statement::Update { .. } => Ok(Given::Count(changed_by(entries)?)),
-        Statement::Delete { .. } => Ok(Given::Count(changed_by(entries)?)),
+        Statement::Update { .. } => Ok(Given::Count(changed_by(entries))),
+        Statement::Delete { .. } => Ok(Given::Count(changed_by(entries))),
         Statement::Insert { .. } => Ok(Given::Silent),
         Statement::LockTable { .. } => Ok(Given::Silent),
     }

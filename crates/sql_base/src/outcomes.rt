@@ -33,7 +33,7 @@ pub enum Given {
         kinds: List<ColumnKind>,
         rows: List<Packed>,
     },
-    /// How many records were changed.
-    Count(u64),
+    /// How many records were changed, each as often as it was.
+    Count(u128),
     Silent,
 }

@@ -6,7 +6,7 @@ ghost use Rattle.one_thread.specs.Text.{given_text, givens_text, line, values_of
 ghost use Rattle.one_thread.specs.Scaffold.Columns.{spaced_values};
 
 use crate::printing::columns::{is_row, put_columns};
-use crate::printing::words::{put_name, put_number};
+use crate::printing::words::{put_name, put_number, put_wide_number};
 use crate::shown::Shown;
 use sql_base::{ColumnKind, Given, List, NoMemory, Packed};
 use std::alloc::Global;
@@ -97,13 +97,13 @@ fn put_unpacked(out: &mut Vec<u8>, kinds: &[ColumnKind], row: &[u8]) -> Result<(
     Ok(())
 }
 
-fn put_count(out: &mut Vec<u8>, place: Place, count: u64) -> Result<(), NoMemory>
+fn put_count(out: &mut Vec<u8>, place: Place, count: u128) -> Result<(), NoMemory>
     ensures { OnOk result (out.new.items ≡ out.old.items
         ++ line ((codes "COUNT" ∷ decimal place.session ∷ decimal place.ordinal ∷ decimal place.statement ∷ []) ++ decimal count ∷ [])) }
 {
     out.extend_from_slice(b"COUNT")?;
     put_place(out, place)?;
-    put_number(out, count)?;
+    put_wide_number(out, count)?;
     out.push(b'\n')?;
     Ok(())
 }

@@ -15,6 +15,16 @@ pub fn put_number(out: &mut Vec<u8>, number: u64) -> Result<(), NoMemory>
     Ok(())
 }
 
+/// Adds a blank and the number, which may take more than 64 bits, in decimal.
+pub fn put_wide_number(out: &mut Vec<u8>, number: u128) -> Result<(), NoMemory>
+    ensures { OnOk result (out.new.items ≡ out.old.items ++ 0x20 ∷ decimal number) }
+{
+    let mut digits = Buffer::new();
+    out.push(b' ')?;
+    out.extend_from_slice(digits.format(number).as_bytes())?;
+    Ok(())
+}
+
 /// Adds the session and the ordinal of an attempt, each behind a blank.
 pub fn put_name(out: &mut Vec<u8>, session: u32, ordinal: u32) -> Result<(), NoMemory>
     ensures { OnOk result (out.new.items ≡ out.old.items ++ 0x20 ∷ decimal session ++ 0x20 ∷ decimal ordinal) }
