@@ -91,9 +91,13 @@ fn main(rt: HostRuntime) -> ExitCode {
 }
 
 #[cfg(test)]
+mod run_cases;
+#[cfg(test)]
 mod run_rows;
 #[cfg(test)]
 mod run_tests;
+#[cfg(test)]
+mod serial_tests;
 #[cfg(test)]
 mod tests;
 #[cfg(test)]

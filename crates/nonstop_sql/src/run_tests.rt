@@ -1,268 +1,15 @@
 //! Whole runs: the words, the script and the wires, and what must come of them.
 use super::*;
-use crate::run_rows::{
-    ACCOUNTS, ADD, COMMIT, GIVE, HALVES, HIGH, LOAD, LOW, RICH, RUNS, SCAN, TABLE, TAKE,
-    TRANSFERRED,
-};
+use crate::run_cases::{CASES, Paths};
+use crate::run_rows::{RUNS, Run};
 use outside::{Listed, MemorySink, MemorySource};
+use session_grammar::LogEntry;
 use std::alloc::Global;
+use std::process::Abort;
 use std::test::Fail;
 
 /// The room of a sink that takes all that these runs write.
 const AMPLE: usize = 30_000;
-
-/// How the wires of a run answer.
-#[derive(Clone, Copy)]
-pub enum Paths {
-    /// All carry everything.
-    Carry,
-    /// They go round these answers.
-    Round(Passage, &'static [Passage]),
-    /// They tell these answers once, and carry everything from then on.
-    Once(&'static [Passage]),
-}
-
-/// Any run, and what must come of it.
-#[derive(Drop)]
-struct Case {
-    words: &'static [&'static str],
-    script: &'static [&'static str],
-    paths: Paths,
-    status: u8,
-    taken: &'static [&'static str],
-}
-
-const CASES: [Case; 16] = [
-    Case {
-        words: &["nsq", "oracle"],
-        script: &[ACCOUNTS, "SESSION;", TAKE, GIVE, COMMIT, RICH, COMMIT],
-        paths: Paths::Carry,
-        status: 0,
-        taken: TRANSFERRED,
-    },
-    Case {
-        words: &["nsq", "check"],
-        script: &["QUANTUM 2;", TABLE, LOAD, "SESSION;", SCAN, COMMIT],
-        paths: Paths::Carry,
-        status: 0,
-        taken: &[
-            "QUANTUM 2 ;",
-            "BUFFER 4096 ;",
-            "PATIENCE 8 ;",
-            "SERVERS 2 ;",
-            "TABLE t ( k INT , v INT , PRIMARY KEY ( k ) ) ;",
-            "LOAD t ( 1 , 10 ) , ( 2 , 20 ) , ( 3 , 30 ) , ( 4 , 40 ) , ( 5 , 50 ) ;",
-            "SESSION ;",
-            "SELECT k , v FROM t FOR REPEATABLE ACCESS ;",
-            "COMMIT WORK ;",
-        ],
-    },
-    Case {
-        words: &["nsq", "steps", "0", "0", "0", "1"],
-        script: &[
-            "PATIENCE 1;",
-            HALVES,
-            "SESSION;",
-            LOW,
-            HIGH,
-            COMMIT,
-            "SESSION;",
-            HIGH,
-            LOW,
-            COMMIT,
-        ],
-        paths: Paths::Carry,
-        status: 0,
-        taken: &[
-            "TXN 1 1 COMMITTED 1",
-            "COUNT 1 1 1 1",
-            "COUNT 1 1 2 1",
-            "TXN 2 1 ABORTED LOCKED",
-            "TABLE t",
-            "REC 1 11",
-            "REC 1000 21",
-        ],
-    },
-    Case {
-        words: &["nsq", "steps", "0", "0", "0", "1"],
-        script: &[
-            "PATIENCE 1;",
-            "RESTART 2;",
-            HALVES,
-            "SESSION;",
-            LOW,
-            HIGH,
-            COMMIT,
-            "SESSION;",
-            HIGH,
-            LOW,
-            COMMIT,
-        ],
-        paths: Paths::Carry,
-        status: 0,
-        taken: &[
-            "TXN 1 1 COMMITTED 1",
-            "COUNT 1 1 1 1",
-            "COUNT 1 1 2 1",
-            "TXN 2 1 ABORTED LOCKED",
-            "TXN 2 2 ABORTED LOCKED",
-            "TXN 2 3 COMMITTED 2",
-            "COUNT 2 3 1 1",
-            "COUNT 2 3 2 1",
-            "TABLE t",
-            "REC 1 12",
-            "REC 1000 22",
-        ],
-    },
-    Case {
-        words: &["nsq", "steps", "0", "0", "0", "1"],
-        script: &[
-            "PATIENCE 1;",
-            "RESTART 1;",
-            HALVES,
-            "SESSION;",
-            LOW,
-            HIGH,
-            COMMIT,
-            "SESSION;",
-            HIGH,
-            LOW,
-            COMMIT,
-        ],
-        paths: Paths::Carry,
-        status: 0,
-        taken: &[
-            "TXN 1 1 COMMITTED 1",
-            "COUNT 1 1 1 1",
-            "COUNT 1 1 2 1",
-            "TXN 2 1 ABORTED LOCKED",
-            "TXN 2 2 ABORTED LOCKED",
-            "TABLE t",
-            "REC 1 11",
-            "REC 1000 21",
-        ],
-    },
-    Case {
-        words: &["nsq", "steps"],
-        script: &["QUANTUM 2;", TABLE, LOAD, "SESSION;", ADD, COMMIT],
-        paths: Paths::Round(Passage::Repeat, &[]),
-        status: 0,
-        taken: &[
-            "TXN 1 1 COMMITTED 1",
-            "COUNT 1 1 1 5",
-            "TABLE t",
-            "REC 1 11",
-            "REC 2 21",
-            "REC 3 31",
-            "REC 4 41",
-            "REC 5 51",
-        ],
-    },
-    Case {
-        words: &["nsq", "steps"],
-        script: &["QUANTUM 2;", TABLE, LOAD, "SESSION;", ADD, COMMIT],
-        paths: Paths::Round(Passage::LoseReply, &[Passage::Carry]),
-        status: 0,
-        taken: &[
-            "TXN 1 1 COMMITTED 1",
-            "COUNT 1 1 1 5",
-            "TABLE t",
-            "REC 1 11",
-            "REC 2 21",
-            "REC 3 31",
-            "REC 4 41",
-            "REC 5 51",
-        ],
-    },
-    Case {
-        words: &["nsq", "steps"],
-        script: &["QUANTUM 2;", TABLE, LOAD, "SESSION;", ADD, COMMIT],
-        paths: Paths::Round(Passage::LoseRequest, &[]),
-        status: 0,
-        taken: &[
-            "TXN 1 1 ABORTED PATHFAILED",
-            "TABLE t",
-            "REC 1 10",
-            "REC 2 20",
-            "REC 3 30",
-            "REC 4 40",
-            "REC 5 50",
-        ],
-    },
-    Case {
-        words: &["nsq", "steps"],
-        script: &["QUANTUM 2;", TABLE, LOAD, "SESSION;", ADD, COMMIT],
-        paths: Paths::Round(Passage::LoseReply, &[]),
-        status: 0,
-        taken: &[
-            "TXN 1 1 ABORTED PATHFAILED",
-            "TABLE t",
-            "REC 1 10",
-            "REC 2 20",
-            "REC 3 30",
-            "REC 4 40",
-            "REC 5 50",
-        ],
-    },
-    Case {
-        words: &["nsq", "steps"],
-        script: &["QUANTUM 2;", TABLE, LOAD, "SESSION;", ADD, COMMIT],
-        paths: Paths::Once(&[Passage::LoseRequest, Passage::LoseReply]),
-        status: 0,
-        taken: &[
-            "TXN 1 1 COMMITTED 1",
-            "COUNT 1 1 1 5",
-            "TABLE t",
-            "REC 1 11",
-            "REC 2 21",
-            "REC 3 31",
-            "REC 4 41",
-            "REC 5 51",
-        ],
-    },
-    Case {
-        words: &["nsq", "steps"],
-        script: &[],
-        paths: Paths::Carry,
-        status: 1,
-        taken: &[],
-    },
-    Case {
-        words: &["nsq"],
-        script: &["QUANTUM 2;", TABLE, LOAD, "SESSION;", SCAN, COMMIT],
-        paths: Paths::Carry,
-        status: 2,
-        taken: &[],
-    },
-    Case {
-        words: &["nsq", "make"],
-        script: &[],
-        paths: Paths::Carry,
-        status: 2,
-        taken: &[],
-    },
-    Case {
-        words: &["nsq", "make", "18446744073709551616"],
-        script: &[],
-        paths: Paths::Carry,
-        status: 2,
-        taken: &[],
-    },
-    Case {
-        words: &["nsq", "trial", "7", "7"],
-        script: &[],
-        paths: Paths::Carry,
-        status: 2,
-        taken: &[],
-    },
-    Case {
-        words: &["nsq", "steps", "4294967296"],
-        script: &["QUANTUM 2;", TABLE, LOAD, "SESSION;", SCAN, COMMIT],
-        paths: Paths::Carry,
-        status: 2,
-        taken: &[],
-    },
-];
 
 /// Lines, each with its end.
 pub fn joined(alloc: Global, lines: &[&str]) -> Result<Vec<u8>, NoMemory> {
@@ -298,17 +45,13 @@ pub fn wires_of(alloc: Global, paths: Paths) -> Result<Vec<Box<dyn Wire + Send>>
     Ok(wires)
 }
 
-/// The status of a run, and what its sink took.
-fn ran(alloc: Global, case: &Case) -> Result<(u8, Vec<u8>), Fail> {
-    ran_on(alloc, case.words, joined(alloc, case.script)?, case.paths)
-}
-
+/// How a run on the bytes of a script ended, and what its sink took.
 fn ran_on(
     alloc: Global,
     words: &[&str],
     script: Vec<u8>,
     paths: Paths,
-) -> Result<(u8, Vec<u8>), Fail> {
+) -> Result<(Outcome, Vec<u8>), Fail> {
     let words = words_of(alloc, words)?;
     let wires = wires_of(alloc, paths)?;
     let mut source = MemorySource::new(script, Vec::new(alloc));
@@ -323,38 +66,78 @@ fn ran_on(
         wires,
         &mut collectors,
     );
-    Ok((outcome.status, sink.taken().to_vec(alloc)?))
+    Ok((outcome, sink.taken().to_vec(alloc)?))
 }
 
-#[test]
-fn scripts_run_as_they_should(rt: HostRuntime) -> Result<(), Fail> {
-    for run in &RUNS {
-        let case = Case {
-            words: &["nsq", "steps"],
-            script: run.script,
-            paths: Paths::Carry,
-            status: 0,
-            taken: run.taken,
-        };
-        let (status, taken) = ran(rt.alloc(), &case)?;
-        assert_eq!(rt; status, case.status);
-        assert_eq!(rt;
-            taken.as_slice(),
-            joined(rt.alloc(), case.taken)?.as_slice()
-        );
-    }
+/// How a run on the lines of a script ended, and what its sink took.
+pub fn ran(
+    alloc: Global,
+    words: &[&str],
+    script: &[&str],
+    paths: Paths,
+) -> Result<(Outcome, Vec<u8>), Fail> {
+    ran_on(alloc, words, joined(alloc, script)?, paths)
+}
+
+/// Runs a script by a command, and compares what is written.
+fn expect_run(rt: &impl Abort, alloc: Global, command: &str, row: &Run) -> Result<(), Fail> {
+    let (outcome, taken) = ran(alloc, &["nsq", command], row.script, Paths::Carry)?;
+    assert_eq!(rt; outcome.status, 0);
+    assert_eq!(rt; taken.as_slice(), joined(alloc, row.taken)?.as_slice());
     Ok(())
 }
 
 #[test]
+fn one_session_runs_as_one_thread(rt: HostRuntime) -> Result<(), Fail> {
+    for row in &RUNS {
+        expect_run(&rt, rt.alloc(), "steps", row)?;
+        expect_run(&rt, rt.alloc(), "oracle", row)?;
+    }
+    Ok(())
+}
+
+/// How often the path of each request of the first session was lost.
+fn losses_in(alloc: Global, outcome: &Outcome) -> Result<Vec<u32>, NoMemory> {
+    let mut counts = Vec::new(alloc);
+    let Some(kept) = &outcome.kept else {
+        return Ok(counts);
+    };
+    let [log, ..] = kept.logs.items() else {
+        return Ok(counts);
+    };
+    for entry in log.items() {
+        if let LogEntry::Asked { losses, .. } = entry {
+            counts.push(*losses)?;
+        }
+    }
+    Ok(counts)
+}
+
+/// How many requests each partition has served.
+fn served_in(alloc: Global, outcome: &Outcome) -> Result<Vec<usize>, NoMemory> {
+    let mut counts = Vec::new(alloc);
+    if let Some(kept) = &outcome.kept {
+        for history in kept.histories.items() {
+            counts.push(history.items().len())?;
+        }
+    }
+    Ok(counts)
+}
+
+#[test]
 fn runs_end_as_they_should(rt: HostRuntime) -> Result<(), Fail> {
+    let alloc = rt.alloc();
     for case in &CASES {
-        let (status, taken) = ran(rt.alloc(), case)?;
-        assert_eq!(rt; status, case.status);
-        assert_eq!(rt;
-            taken.as_slice(),
-            joined(rt.alloc(), case.taken)?.as_slice()
+        let (outcome, taken) = ran(alloc, case.words, case.script, case.paths)?;
+        assert_eq!(rt; outcome.status, case.status);
+        assert_eq!(rt; taken.as_slice(), joined(alloc, case.taken)?.as_slice());
+        assert!(rt;
+            line_of(alloc, &outcome)?.as_str() == case.said,
+            "{}",
+            case.said
         );
+        assert_eq!(rt; losses_in(alloc, &outcome)?.as_slice(), case.losses);
+        assert_eq!(rt; served_in(alloc, &outcome)?.as_slice(), case.served);
     }
     Ok(())
 }
@@ -362,14 +145,14 @@ fn runs_end_as_they_should(rt: HostRuntime) -> Result<(), Fail> {
 #[test]
 fn made_scripts_are_read_and_run(rt: HostRuntime) -> Result<(), Fail> {
     let alloc = rt.alloc();
-    let (made_status, made) = ran_on(alloc, &["nsq", "make", "7"], Vec::new(alloc), Paths::Carry)?;
-    assert_eq!(rt; made_status, 0);
+    let (first, made) = ran_on(alloc, &["nsq", "make", "7"], Vec::new(alloc), Paths::Carry)?;
+    assert_eq!(rt; first.status, 0);
     let script = made.as_slice().to_vec(alloc)?;
-    let (read_status, read) = ran_on(alloc, &["nsq", "check"], script, Paths::Carry)?;
-    assert_eq!(rt; read_status, 0);
+    let (second, read) = ran_on(alloc, &["nsq", "check"], script, Paths::Carry)?;
+    assert_eq!(rt; second.status, 0);
     assert_eq!(rt; read.as_slice(), made.as_slice());
-    let (status, tried) = ran_on(alloc, &["nsq", "trial", "7"], Vec::new(alloc), Paths::Carry)?;
-    assert_eq!(rt; status, 0);
+    let (third, tried) = ran_on(alloc, &["nsq", "trial", "7"], Vec::new(alloc), Paths::Carry)?;
+    assert_eq!(rt; third.status, 0);
     let (_, again) = ran_on(alloc, &["nsq", "trial", "7"], Vec::new(alloc), Paths::Carry)?;
     assert_eq!(rt; again.as_slice(), tried.as_slice());
     assert_eq!(rt; tried.as_slice().starts_with(b"TXNS "), true);

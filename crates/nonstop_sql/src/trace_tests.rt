@@ -3,7 +3,8 @@ ghost use Rattle.std.specs.Prelude.{◌+◌, [], ◌∷◌, decimal, slice_index
 
 use super::*;
 use crate::run_rows::{COMMIT, LOAD, SCAN, TABLE};
-use crate::run_tests::{Paths, joined, wires_of, words_of};
+use crate::run_cases::Paths;
+use crate::run_tests::{joined, wires_of, words_of};
 use itoa::Buffer;
 use outside::{MemorySink, MemorySource, Seen};
 use std::alloc::Global;
