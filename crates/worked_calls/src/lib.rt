@@ -8,6 +8,10 @@ mod bounded_scripts;
 #[cfg(test)]
 mod limit_refusals;
 #[cfg(test)]
+mod partition_cases;
+#[cfg(test)]
+mod partitions;
+#[cfg(test)]
 mod plain_checks;
 #[cfg(test)]
 mod predicates;
@@ -21,5 +25,7 @@ mod read_scripts;
 mod refusals;
 #[cfg(test)]
 mod replying;
+#[cfg(test)]
+mod serving;
 #[cfg(test)]
 mod sessions;
