@@ -1,24 +1,41 @@
-//! Locks in a vector with reserved room.
-ghost use Rattle.std.specs.Prelude.{◌≡◌, ◌<◌, ◌≤◌, ◌+◌, ◌++◌, ◌∷◌, [], insert, length, position, option_copied, vec_len, vec_capacity, IfOk, OnOk, OnErr};
-ghost use Rattle.std.specs.List.{list_any, position_or_len};
-ghost use Rattle.sql_base.specs.Locks.{conflicts, covers, first_conflict, granted, released};
-ghost use Rattle.lock_tables.specs.LockTables.{AnswersGrant, is_behind, lock_table_of};
+//! Locks in a vector in table order, with reserved room.
+ghost use Rattle.std.specs.Prelude.{◌≡◌, ◌<◌, ◌≤◌, ◌+◌, ◌++◌, ◌∷◌, [], insert, length, option_copied, vec_len, vec_capacity, IfOk, OnOk, OnErr};
+ghost use Rattle.std.specs.List.{list_any, prefix_len};
+ghost use Rattle.sql_base.specs.Locks.{covers, first_conflict, granted, released, InTableOrder};
+ghost use Rattle.lock_tables.specs.LockTables.{AnswersGrant, is_before, lock_table_of};
 
 use crate::faults::LockFault;
 use crate::orders::{bars, compare, is_cover};
+use crate::runs::{below, own};
 use sql_base::{Lock, Mode, NoMemory, TxnName};
 use std::alloc::Global;
 
-/// The first lock that conflicts with the holder's lock of the prefix in the mode.
+/// The first lock that conflicts with the holder's lock of the prefix in the mode. It is sought on the way down to the
+/// prefix, and then among the locks that begin with it.
 pub fn first_bar<'a>(
     locks: &'a [Lock],
     holder: TxnName,
     prefix: &[u8],
     mode: Mode,
 ) -> Option<&'a Lock>
+    requires { InTableOrder locks.now }
     ensures { option_copied result ≡ first_conflict locks.now holder prefix.now mode }
 {
-    for lock in locks {
+    let mut run = locks;
+    for (depth, byte) in prefix.iter().enumerate() {
+        if let Some(bar) = first_in(own(run, depth), holder, prefix, mode) {
+            return Some(bar);
+        }
+        run = below(run, depth, *byte);
+    }
+    first_in(run, holder, prefix, mode)
+}
+
+/// The first lock of a run that conflicts with the holder's lock of the prefix in the mode.
+fn first_in<'a>(run: &'a [Lock], holder: TxnName, prefix: &[u8], mode: Mode) -> Option<&'a Lock>
+    ensures { option_copied result ≡ first_conflict run.now holder prefix.now mode }
+{
+    for lock in run {
         if bars(lock, holder, prefix, mode) {
             return Some(lock);
         }
@@ -26,14 +43,47 @@ pub fn first_bar<'a>(
     None
 }
 
+/// An own lock on the way down to the granule covers it.
+fn is_covered(locks: &[Lock], wanted: &Lock) -> bool
+    requires { InTableOrder locks.now }
+    ensures { result ≡ list_any (λ own. covers own wanted.now) locks.now }
+{
+    let prefix = wanted.prefix.bytes();
+    let mut run = locks;
+    for (depth, byte) in prefix.iter().enumerate() {
+        if any_covers(own(run, depth), wanted) {
+            return true;
+        }
+        run = below(run, depth, *byte);
+    }
+    any_covers(own(run, prefix.len()), wanted)
+}
+
+fn any_covers(run: &[Lock], wanted: &Lock) -> bool
+    ensures { result ≡ list_any (λ own. covers own wanted.now) run.now }
+{
+    run.iter().any(|own| is_cover(own, wanted))
+}
+
+/// How many locks stand before this one in table order.
+fn place_of(locks: &[Lock], lock: &Lock) -> usize
+    requires { InTableOrder locks.now }
+    ensures place { result ≡ prefix_len (is_before lock.now) locks.now }
+    ensures within { result ≤ length locks.now }
+{
+    locks.partition_point(|other| compare(other, lock).is_lt())
+}
+
 /// Grants a lock, unless another's lock conflicts with it. An own lock that covers it stands for it.
 pub fn grant(locks: &mut Vec<Lock>, lock: Lock) -> Result<(), LockFault>
+    requires { InTableOrder locks.old.items }
     ensures answer { AnswersGrant (lock_table_of locks.old) lock result }
     ensures ok { OnOk result (locks.new.items ≡ granted lock locks.old.items) }
     ensures err { OnErr result (locks.new.items ≡ locks.old.items) }
     ensures spare { (lock_table_of locks.old).spare ≤ (lock_table_of locks.new).spare + 1 }
 {
-    if let Some(at) = conflict_at(locks, &lock) {
+    if let Some(bar) = first_bar(locks, lock.holder, lock.prefix.bytes(), lock.mode) {
+        let at = place_of(locks, bar);
         return Err(LockFault::Conflict { at });
     }
     if is_covered(locks, &lock) {
@@ -48,6 +98,7 @@ pub fn grant(locks: &mut Vec<Lock>, lock: Lock) -> Result<(), LockFault>
 
 /// Adds a lock at its place, for which there is room, unless an own lock covers it.
 pub fn admit(locks: &mut Vec<Lock>, lock: Lock)
+    requires order { InTableOrder locks.old.items }
     requires room { vec_len locks.old < vec_capacity locks.old }
     ensures items { locks.new.items ≡ granted lock locks.old.items }
     ensures spare { (lock_table_of locks.old).spare ≤ (lock_table_of locks.new).spare + 1 }
@@ -68,32 +119,6 @@ fn insert(locks: &mut Vec<Lock>, at: usize, lock: Lock)
 {
     let inserted = locks.insert(at, lock);
     prove!(inserted.is_ok());
-}
-
-fn conflict_at(locks: &[Lock], wanted: &Lock) -> Option<usize>
-    ensures { result ≡ position (conflicts wanted.now) locks.now }
-{
-    locks.iter().position(|lock| bars(lock, wanted.holder, wanted.prefix.bytes(), wanted.mode))
-}
-
-fn is_covered(locks: &[Lock], wanted: &Lock) -> bool
-    ensures { result ≡ list_any (λ own. covers own wanted.now) locks.now }
-{
-    locks.iter().any(|own| is_cover(own, wanted))
-}
-
-/// How many locks stand before the place of this one.
-fn place_of(locks: &[Lock], lock: &Lock) -> usize
-    ensures place { result ≡ position_or_len (is_behind lock.now) locks.now }
-    ensures within { result ≤ length locks.now }
-{
-    first_behind(locks, lock).unwrap_or(locks.len())
-}
-
-fn first_behind(locks: &[Lock], lock: &Lock) -> Option<usize>
-    ensures { result ≡ position (is_behind lock.now) locks.now }
-{
-    locks.iter().position(|other| compare(lock, other).is_lt())
 }
 
 /// Gives up the locks of a transaction.
