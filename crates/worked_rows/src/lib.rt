@@ -14,6 +14,8 @@ mod hostile_codes;
 #[cfg(test)]
 mod journals;
 #[cfg(test)]
+mod locks;
+#[cfg(test)]
 mod made;
 #[cfg(test)]
 mod mails;
