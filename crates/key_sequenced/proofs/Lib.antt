@@ -7,3 +7,4 @@ pub mod Joining
 pub mod Laying
 pub mod Rising
 pub mod Starts
+pub mod Writers

@@ -1,5 +1,5 @@
 -- A file as blocks of cells, and the block to which a key belongs.
-use Rattle.std.specs.Prelude.{◌≡◌, ℕ, ◌-◌, ◌<◌, min, List, [], ◌∷◌, ◌++◌, length, Bool, false, true, Vec, vec_len, vec_capacity}
+use Rattle.std.specs.Prelude.{◌≡◌, ℕ, ◌-◌, ◌<◌, min, List, [], ◌∷◌, ◌++◌, length, Bool, false, true, Option, None, Vec, vec_len, vec_capacity}
 use Rattle.std.specs.List.{prefix_len, AllByRecursion}
 use Rattle.sql_base.specs.Keys.{key_le}
 use Rattle.sql_base.specs.declared.key_ranges.Start.{Start}
@@ -20,6 +20,10 @@ kept_cells = 32
 abbrev pub joined : List (List Cell) → List Cell
 joined [] = []
 joined (block ∷ blocks) = block ++ joined blocks
+
+-- a block whose mark is off has no cell with a writer
+abbrev pub IsMarked : Bool → List Cell → Type 0
+IsMarked written cells = written ≡ false → AllByRecursion (λ c. c.writer ≡ None) cells
 
 abbrev pub IsFilled : List Cell → Type 0
 IsFilled block = 0 < length block

@@ -1,12 +1,12 @@
 //! A block of a file: up to 64 cells in memory that was taken beforehand.
-ghost use Rattle.std.specs.Prelude.{◌≡◌, ◌≤◌, ◌<◌, ◌++◌, [], length, reverse, vec_len, vec_capacity, IfOk};
+ghost use Rattle.std.specs.Prelude.{◌≡◌, ◌≤◌, ◌<◌, ◌++◌, ◌||◌, [], is_some, length, reverse, vec_len, vec_capacity, IfOk};
 ghost use Rattle.key_sequenced.specs.Cells.{AreCells, restored, cells_settled};
 ghost use Rattle.key_sequenced.specs.Files.{with_cell, rewritten_at};
 ghost use Rattle.key_sequenced.specs.Blocks.{begins_by, is_filled, most_cells, kept_cells};
 
 use crate::Cell;
 use crate::changes::{lay, rewrite_at};
-use crate::ends::{restore, settle};
+use crate::ends::{is_written, restore, settle};
 use sql_base::{NoMemory, Row, TxnName};
 use std::alloc::Global;
 use std::marker::Model;
@@ -20,12 +20,15 @@ pub const KEPT_CELLS: usize = 32;
 #[derive(Debug, Drop)]
 pub struct Block {
     cells: Vec<Cell>,
+    /// A cell may have a writer. Where none has, the end of a transaction leaves the block as it is.
+    written: bool,
 }
 
 impl Model for Block {
     ghost use Rattle.std.specs.Prelude.{List, ◌≤◌, vec_len, vec_capacity};
     ghost use Rattle.key_sequenced.specs.declared.Cell.{Cell};
     ghost use Rattle.key_sequenced.specs.contracts.Cell as cell;
+    ghost use Rattle.key_sequenced.specs.Blocks.{IsMarked};
     ghost use Rattle.std.specs.Coded.{codes};
 
     ghost Value = { List Cell };
@@ -34,7 +37,7 @@ impl Model for Block {
 
     ghost view = { λ b. b.cells.items };
 
-    ghost invariant = { λ b. (vec_len b.cells ≤ 64) × (64 ≤ vec_capacity b.cells) };
+    ghost invariant = { λ b. (vec_len b.cells ≤ 64) × (64 ≤ vec_capacity b.cells) × IsMarked b.written b.cells.items };
 }
 
 impl Block {
@@ -44,6 +47,7 @@ impl Block {
     {
         Ok(Block {
             cells: Vec::with_capacity(alloc, MOST_CELLS)?,
+            written: false,
         })
     }
 
@@ -86,6 +90,7 @@ impl Block {
         requires room { length self.old < most_cells }
         ensures { self.new ≡ with_cell cell self.old }
     {
+        self.written = marked(self.written, &cell);
         lay(&mut self.cells, cell);
     }
 
@@ -99,6 +104,7 @@ impl Block {
         ensures back { 0 < length behind.new }
     {
         halve(&mut self.cells, &mut behind.cells);
+        behind.written = self.written;
         if behind.begins_by(cell.key.bytes()) {
             behind.lay(cell);
         } else {
@@ -111,6 +117,7 @@ impl Block {
         requires { AreCells self.old }
         ensures { self.new ≡ rewritten_at writer key.now now self.old }
     {
+        self.written = true;
         rewrite_at(&mut self.cells, key, now, writer);
     }
 
@@ -118,15 +125,28 @@ impl Block {
     pub fn restore(&mut self, t: TxnName)
         ensures { self.new ≡ restored t self.old }
     {
-        restore(&mut self.cells, t);
+        if self.written {
+            restore(&mut self.cells, t);
+            self.written = is_written(&self.cells);
+        }
     }
 
     /// Makes the changes of a transaction good.
     pub fn settle(&mut self, t: TxnName)
         ensures { self.new ≡ cells_settled t self.old }
     {
-        settle(&mut self.cells, t);
+        if self.written {
+            settle(&mut self.cells, t);
+            self.written = is_written(&self.cells);
+        }
     }
+}
+
+/// The mark of a block after one more cell.
+fn marked(written: bool, cell: &Cell) -> bool
+    ensures { result ≡ (written || is_some cell.entry.now.writer) }
+{
+    written || cell.writer.is_some()
 }
 
 /// Moves all cells but the first 32 to an empty vector, in their order.

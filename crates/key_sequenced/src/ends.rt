@@ -1,5 +1,6 @@
 //! What the end of a transaction leaves of its changes.
-ghost use Rattle.std.specs.Prelude.{◌≡◌, ◌≤◌, map, vec_len, vec_capacity};
+ghost use Rattle.std.specs.Prelude.{◌≡◌, ◌≤◌, is_some, map, vec_len, vec_capacity};
+ghost use Rattle.std.specs.List.{list_any};
 ghost use Rattle.key_sequenced.specs.Cells.{restored, cells_settled};
 ghost use Rattle.key_sequenced.specs.Files.{cell_ended};
 ghost use Rattle.key_sequenced.specs.Changes.{is_written_by};
@@ -63,6 +64,13 @@ fn make_good(cell: &mut Cell, t: TxnName)
         cell.was = None;
         cell.writer = None;
     }
+}
+
+/// A cell has a writer.
+pub fn is_written(cells: &[Cell]) -> bool
+    ensures { result ≡ list_any (λ c. is_some c.writer) cells.now }
+{
+    cells.iter().any(|cell| cell.writer.is_some())
 }
 
 fn is_of(cell: &Cell, t: TxnName) -> bool

@@ -1,9 +1,10 @@
-use Rattle.std.proofs.Common.{◌≡◌, ◌++◌, ap, sym, ◌∙◌, subst}
+use Rattle.std.proofs.Common.{◌≡◌, ◌++◌, ap, sym, ◌∙◌, subst, arith}
 use Rattle.key_sequenced.specs.Blocks.{begins_by}
 use Rattle.key_sequenced.specs.Cells.{AreCells}
 use Rattle.key_sequenced.specs.Files.{with_cell}
 use Rattle.key_sequenced.proofs.Belonging.{above-half, below-half, cells-back, cells-front}
 use Rattle.key_sequenced.proofs.Joining.{laid-before, laid-behind, laid-some}
+use Rattle.key_sequenced.proofs.Writers.{marked-back, marked-front}
 use Rattle.key_sequenced.proofs.blocks.Block.lay_in_halves.Goals as goal
 
 pub lay-requires-clause-cells : goal.lay-requires-clause-cells
@@ -36,3 +37,24 @@ returns-else-begins_by-clause-cells c =
 
 pub returns-else-begins_by-clause-front : goal.returns-else-begins_by-clause-front
 returns-else-begins_by-clause-front c = rw c.lay-else-begins_by.ensures (laid-some c.args.cell c.halve.new.full.items)
+
+pub invariant_of-self : goal.invariant_of-self
+invariant_of-self c = (
+  omega (arith, c.halve.ensures.front),
+  rw c.halve.ensures.capacity c.self.invariant.1,
+  marked-front c.self.inside.written c.halve.new.full.items c.halve.new.behind.items c.self.inside.cells.items c.halve.ensures.cells c.self.invariant.2,
+)
+
+pub invariant_of-self-else-begins_by : goal.invariant_of-self-else-begins_by
+invariant_of-self-else-begins_by c = (
+  omega (arith, c.halve.ensures.front),
+  rw c.halve.ensures.capacity c.self.invariant.1,
+  marked-front c.self.inside.written c.halve.new.full.items c.halve.new.behind.items c.self.inside.cells.items c.halve.ensures.cells c.self.invariant.2,
+)
+
+pub invariant_of-behind : goal.invariant_of-behind
+invariant_of-behind c = (
+  omega (arith, c.halve.ensures.back),
+  omega (arith, c.halve.ensures.capacity_behind, c.behind.invariant.1),
+  marked-back c.self.inside.written c.halve.new.full.items c.halve.new.behind.items c.self.inside.cells.items c.halve.ensures.cells c.self.invariant.2,
+)
