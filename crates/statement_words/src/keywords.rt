@@ -1,5 +1,5 @@
 //! The words of the language that are no names.
-ghost use Rattle.std.specs.Prelude.{◌≡◌, is_some};
+ghost use Rattle.std.specs.Prelude.{◌≡◌, ◌∷◌, ℕ, List, Some, is_some};
 ghost use Rattle.sql_base.specs.Names.{is_keyword};
 ghost use Rattle.statement_words.specs.declared.keywords.Keyword as keyword;
 ghost use Rattle.std.specs.List.{find};
@@ -152,13 +152,65 @@ fn written_as(bytes: &[u8], keywords: &[Keyword]) -> Option<Keyword>
     None
 }
 
-/// The keyword that is written as these bytes, if there is one.
+/// The keywords that begin with this byte, an upper case letter.
 #[tactic(auto, unfolding(crate::specs::Keywords::keyword_of))]
+fn beginning_with(first: u8) -> &'static [Keyword]
+    ensures { (rest : List ℕ) → find (λ k. bytes_eq (first ∷ rest) (spelling k)) result.now ≡ keyword_of (first ∷ rest) }
+{
+    match first {
+        b'A' => &[Keyword::Access, Keyword::And],
+        b'B' => &[Keyword::Buffer, Keyword::Browse],
+        b'C' => &[Keyword::Char, Keyword::Check, Keyword::Commit],
+        b'D' => &[Keyword::Delete],
+        b'E' => &[Keyword::Exclusive],
+        b'F' => &[Keyword::First, Keyword::From, Keyword::For],
+        b'I' => &[Keyword::Int, Keyword::Insert, Keyword::Into, Keyword::In],
+        b'K' => &[Keyword::Key],
+        b'L' => &[Keyword::Load, Keyword::Lock],
+        b'M' => &[Keyword::Mode],
+        b'N' => &[Keyword::Not],
+        b'O' => &[Keyword::Or],
+        b'P' => &[Keyword::Patience, Keyword::Primary],
+        b'Q' => &[Keyword::Quantum],
+        b'R' => &[Keyword::Restart, Keyword::Repeatable, Keyword::Rollback],
+        b'S' => &[
+            Keyword::Servers,
+            Keyword::Session,
+            Keyword::Select,
+            Keyword::Set,
+            Keyword::Share,
+            Keyword::Stable,
+        ],
+        b'T' => &[Keyword::Table],
+        b'U' => &[Keyword::Update],
+        b'V' => &[Keyword::Values],
+        b'W' => &[Keyword::Where, Keyword::Work],
+        _ => &KEYWORDS,
+    }
+}
+
+/// The keyword that is written as these bytes, sought among those with their first byte.
+#[tactic(auto, unfolding(crate::specs::Keywords::keyword_of))]
+fn sought(bytes: &[u8]) -> Option<Keyword>
+    ensures { result ≡ keyword_of bytes.now }
+{
+    match bytes.split_first() {
+        Some((first, behind)) => {
+            if !first.is_ascii_uppercase() {
+                return None;
+            }
+            written_as(bytes, beginning_with(*first))
+        }
+        None => None,
+    }
+}
+
+/// The keyword that is written as these bytes, if there is one.
 pub fn keyword_of(bytes: &[u8]) -> Option<Keyword>
     ensures same { result ≡ keyword_of bytes.now }
     // Only the words of the language are written so, and each of them is.
     ensures known { is_some result ≡ is_keyword bytes.now }
     ensures found { (k : keyword.Keyword) → bytes.now ≡ spelling k → result ≡ Some k }
 {
-    written_as(bytes, &KEYWORDS)
+    sought(bytes)
 }

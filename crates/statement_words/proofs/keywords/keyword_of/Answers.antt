@@ -6,9 +6,7 @@ use Rattle.statement_words.proofs.Spelled.{keyword_of-spelling}
 use Rattle.statement_words.proofs.keywords.keyword_of.Goals as goal
 
 pub returns-clause-found : goal.returns-clause-found
-unfolding keyword_of
-returns-clause-found c k is = c.written_as.ensures ∙ ap keyword_of is ∙ keyword_of-spelling k
+returns-clause-found c k is = c.sought.ensures ∙ ap keyword_of is ∙ keyword_of-spelling k
 
 pub returns-clause-known : goal.returns-clause-known
-unfolding keyword_of
-returns-clause-known c = ap is_some c.written_as.ensures ∙ keyword_of-known c.args.bytes.now
+returns-clause-known c = ap is_some c.sought.ensures ∙ keyword_of-known c.args.bytes.now
