@@ -12,7 +12,7 @@ use Rattle.std.proofs.lemmas.Bool.{le-leb}
 use Rattle.std.proofs.lemmas.Grind.{common_steps}
 use Rattle.sql_base.specs.Keys.{is_from, key_lt}
 use Rattle.sql_base.proofs.KeyOrders.{lt-trans, not_le_from_lt}
-use Rattle.sql_base.proofs.ListFacts.{all-weaker, filter-none, filter-twice}
+use Rattle.sql_base.proofs.ListFacts.{all-weaker, all_of, all_right, all_through, filter-none, filter-twice}
 use Rattle.key_sequenced.specs.Cells.{AreCells}
 use Rattle.key_sequenced.proofs.Belonging.{above-first, cells-back}
 use Rattle.sql_base.specs.declared.faults.Cause.{Cause}
@@ -297,6 +297,12 @@ pub end_past : (limits : Limits) (table : TableDef) (locks : List Lock) (block :
     → Walked limits block.holder (judged table locks block seen) rows room visited changed plans last → (walk : Walk) → walk.reply ≡ Ended rows changed → walk.plans ≡ plans → IsWalk limits table (seen ++ cell ∷ rest) locks block walk
 end_past limits table locks block seen cell rest rows room visited changed plans last rise h w walk reply same =
     same_walk limits table locks block seen (seen ++ cell ∷ rest) (judged_past table locks block seen cell rest rise h) walk (end_seen limits table locks block seen rows room visited changed plans last w walk reply same)
+
+-- the next of the cells that pass a test passes it
+pub from-next : (p : Cell → Bool) (cells seen : List Cell) (cell : Cell) (rest : List Cell) → seen ++ cell ∷ rest ≡ filter p cells → p cell ≡ true
+from-next p cells seen cell rest is =
+    let all = all_through p (λ x. p x ≡ true) cells (all_of (λ x. p x ≡ true → p x ≡ true) (λ x h. h) cells) in
+    (all_right (λ x. p x ≡ true) seen (cell ∷ rest) (subst (AllByRecursion (λ x. p x ≡ true)) (sym is) all)).0
 
 -- two clauses of one call
 pub if_both : {X E : Type 0} (r : Result X E) (P Q R : X → Type 0) → ((x : X) → P x → Q x → R x) → IfOk r P → IfOk r Q → IfOk r R

@@ -1,20 +1,20 @@
 //! Which cells a quantum looks at.
-ghost use Rattle.std.specs.Prelude.{◌≡◌};
+ghost use Rattle.std.specs.Prelude.{◌≡◌, false, true};
 ghost use Rattle.sql_base.specs.Keys.{is_from, key_lt};
 ghost use Rattle.quantum_core.specs.Verdicts.{hides, is_candidate, is_hidden};
 
 use crate::works::Work;
 use key_sequenced::Cell;
-use sql_base::{Access, Start, TxnName};
+use sql_base::{Access, TxnName};
 use subset_blocks::Block;
 
-/// Whether a quantum of the block looks at the cell.
+/// Whether a quantum of the block looks at the cell, which stands from its start on and up to its high key.
 pub fn sees(block: &Block<Work>, cell: &Cell) -> bool
+    requires from { is_from block.now.start cell.now.key ≡ true }
+    requires up_to { key_lt block.now.high cell.now.key ≡ false }
     ensures { result ≡ is_candidate block.now cell.entry.now }
 {
-    is_at_start(&block.start, cell.key.bytes())
-        && cell.key.bytes().cmp(block.high.bytes()).is_le()
-        && !is_gone(block, cell)
+    !is_gone(block, cell)
 }
 
 /// Whether the cell lies behind the last one that a quantum of the block may look at.
@@ -22,15 +22,6 @@ pub fn is_past(block: &Block<Work>, cell: &Cell) -> bool
     ensures { result ≡ key_lt block.now.high cell.entry.now.key }
 {
     block.high.bytes().cmp(cell.key.bytes()).is_lt()
-}
-
-fn is_at_start(start: &Start, key: &[u8]) -> bool
-    ensures { result ≡ is_from start.now key.now }
-{
-    match start {
-        Start::At(low) => low.bytes().cmp(key).is_le(),
-        Start::After(last) => last.bytes().cmp(key).is_lt(),
-    }
 }
 
 fn is_gone(block: &Block<Work>, cell: &Cell) -> bool

@@ -8,7 +8,7 @@ use Rattle.key_sequenced.proofs.Rising.{rise-filter}
 use Rattle.quantum_core.specs.declared.verdicts.Verdict.TheVariants.{PassedOver}
 use Rattle.quantum_runner.specs.Scaffold.Plans.{halted}
 use Rattle.quantum_runner.specs.Scaffold.Works.{HoldsRow}
-use Rattle.quantum_runner.proofs.Walking.{at_next, end_seen, end_past, holds-next, if_both, more_next, stop_at_verdict, stop_at_visits, walk_from, IsAt}
+use Rattle.quantum_runner.proofs.Walking.{at_next, end_seen, end_past, from-next, holds-next, if_both, more_next, stop_at_verdict, stop_at_visits, walk_from, IsAt}
 use Rattle.quantum_runner.proofs.walks.walk.Goals as goal
 
 pub returns-then-done-limits-clause-walk : goal.returns-then-done-limits-clause-walk
@@ -23,6 +23,13 @@ returns-then-done-limits-clause-walk c =
     (λ walk reply plans. walk_from _ _ _ _ c.args.file.now.cells _ cells walk
     (stop_at_visits _ _ _ _ _ _ _ _ _ _ _ _ _ at PassedOver c.if-done-limits.true c.requires.visits walk reply plans))
     c.stop.ensures.reply c.stop.ensures.plans
+
+pub sees-requires-clause-from : goal.sees-requires-clause-from
+sees-requires-clause-from c =
+    let seen : List Cell = map (λ x. x.now) c.loop-cell.yielded in
+    let from : List Cell = filter (λ c'. is_from c.args.block.now.start c'.key) c.args.file.now.cells in
+    let cells : seen ++ c.in-Some.cell.now ∷ c.next.new.self ≡ from = ap (λ cs. seen ++ cs) (sym c.in-Some.ensures.steps) ∙ c.loop-cell.invariant.2 in
+    from-next (λ c'. is_from c.args.block.now.start c'.key) c.args.file.now.cells seen c.in-Some.cell.now c.next.new.self cells
 
 pub judge-requires-clause-row : goal.judge-requires-clause-row
 judge-requires-clause-row c =
