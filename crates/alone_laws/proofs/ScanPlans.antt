@@ -20,7 +20,7 @@ use Rattle.key_sequenced.specs.Cells.{Keyed, records}
 use Rattle.partition_map.specs.Map.{part_of}
 use Rattle.partition_state.specs.State.{State}
 use Rattle.range_finder.specs.Range.{range}
-use Rattle.run_record.specs.Tiles.{range_of, sents_of}
+use Rattle.run_record.specs.Tiles.{range_of}
 use Rattle.serial_laws.specs.Scaffold.Exact.{IsSet}
 use Rattle.serial_laws.specs.Scaffold.Stages.{Fresh, RoomFor, begin_of}
 use Rattle.serial_laws.proofs.Finished.{PieceSent, range_is, sents-are, sents_from}
@@ -31,7 +31,7 @@ use Rattle.serial_passes.proofs.Givings.{part_within}
 use Rattle.serial_passes.proofs.PieceLaws.{pieces_law}
 use Rattle.serial_passes.proofs.Sweeping.{Sweeps as Scans}
 use Rattle.session_grammar.specs.Follows.{AreTheirs, IsList, IsPart, IsSingle, OneAfterOther, Together, asker, projection, InLineBy, AreExchanges, WideBy}
-use Rattle.session_grammar.specs.Plans.{Asker, begins_in, filter_code, plan_of, plan_on, select_plan, begin_pieces}
+use Rattle.session_grammar.specs.Plans.{Asker, begin_pieces, begins_in, filter_code, plan_of, plan_on, select_plan, sents_of}
 use Rattle.session_grammar.specs.declared.logs.LogEntry.{LogEntry}
 use Rattle.session_grammar.specs.declared.plans.Plan.TheVariants.{Singles, Subsets}
 use Rattle.session_grammar.specs.declared.plans.Sent.{Sent}

@@ -27,7 +27,7 @@ use Rattle.partition_map.specs.Map.{part_of}
 use Rattle.partition_state.specs.State.{State}
 use Rattle.run_record.specs.Base.{by_table}
 use Rattle.run_record.specs.Serial.{part_gives}
-use Rattle.run_record.specs.Tiles.{FaultFree, range_of, sents_of}
+use Rattle.run_record.specs.Tiles.{FaultFree, range_of}
 use Rattle.serial_laws.specs.Scaffold.Sound.{FitsHere}
 use Rattle.serial_laws.proofs.Chains.{Here}
 use Rattle.serial_passes.specs.Scaffold.Did.{PieceLaw, first_of}
@@ -40,7 +40,7 @@ use Rattle.serial_passes.proofs.Steps.{filter-alike, law_at, none_ranged, ranged
 use Rattle.serial_passes.proofs.Sweeping.{Sweeps as Scans, sweep}
 use Rattle.serial_passes.proofs.Tables.{AllFrom, block_step, moved-from, moved-map, moved-tables, rows_of, step_of, Moved}
 use Rattle.session_grammar.specs.Follows.{AreTheirs, asker, projection}
-use Rattle.session_grammar.specs.Plans.{plan_of}
+use Rattle.session_grammar.specs.Plans.{plan_of, sents_of}
 use Rattle.session_grammar.specs.Rows.{is_for}
 use Rattle.session_grammar.specs.declared.logs.LogEntry.{LogEntry}
 use Rattle.session_grammar.specs.declared.plans.Sent.{Sent}

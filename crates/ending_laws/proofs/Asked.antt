@@ -14,11 +14,10 @@ use Rattle.session_grammar.specs.declared.logs.Answer.TheVariants.{Reply, PathFa
 use Rattle.session_grammar.specs.declared.logs.LogEntry.{LogEntry}
 use Rattle.session_grammar.specs.declared.logs.LogEntry.TheVariants.{Asked, Drew}
 use Rattle.session_grammar.specs.Follows.{AreEnds, ArePrepares, Attempt, InTurn, IsEnding, IsPart, Reads, entries_of, joined, touched}
-use Rattle.session_grammar.specs.Plans.{Asker, plan_of}
+use Rattle.session_grammar.specs.Plans.{Asker, plan_of, sents_of}
 use Rattle.session_grammar.specs.Rows.{IsAsked, IsExchange}
 use Rattle.session_grammar.specs.UnderWay.{Awaiting, Drawing, IsAnswered, IsWith, Sending, UnderWay, unanswered}
 use Rattle.session_grammar.specs.declared.plans.Sent.{Sent}
-use Rattle.run_record.specs.Tiles.{sents_of}
 use Rattle.record_laws.proofs.Attempts.{IsOwn, attempts_counted}
 use Rattle.record_laws.proofs.Completing.{merged_first}
 use Rattle.record_laws.proofs.Parts.{part-all, turns-all}

@@ -138,7 +138,7 @@ fn told(alloc: Global, text: &[u8], commits: &[Drawn]) -> Result<Vec<u8>, NoMemo
 }
 
 /// Runs the two sessions under a schedule, and compares what commits with one session in the order of the stamps.
-fn expect_serial(rt: &impl Abort, alloc: Global, schedule: &str) -> Result<(), Fail> {
+fn expect_serial(rt: &impl Abort, alloc: Global, schedule: &'static str) -> Result<(), Fail> {
     let mut words = ["nsq", "steps"].to_vec(alloc)?;
     for at in 0..schedule.len() {
         words.push(schedule.get(at..at.saturating_add(1)).unwrap_or("0"))?;

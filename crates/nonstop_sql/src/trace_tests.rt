@@ -2,8 +2,8 @@
 ghost use Rattle.std.specs.Prelude.{◌+◌, [], ◌∷◌, decimal, slice_index};
 
 use super::*;
-use crate::run_rows::{COMMIT, LOAD, SCAN, TABLE};
 use crate::run_cases::Paths;
+use crate::run_rows::{COMMIT, LOAD, SCAN, TABLE};
 use crate::run_tests::{joined, wires_of, words_of};
 use itoa::Buffer;
 use outside::{MemorySink, MemorySource, Seen};

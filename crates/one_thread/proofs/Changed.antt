@@ -2,7 +2,7 @@
 use Rattle.std.proofs.Common.{◌≡◌, ℕ, suc, List, [], ◌∷◌, length, map, Bool, true, false, ◌&&◌, cond, Option, Some, None, refl, ap, sym, ◌∙◌}
 use Rattle.std.specs.Prelude.{filter, option_map, Result, Ok, Err, IfSome}
 use Rattle.std.specs.List.{AllByRecursion, cons_option, filter_map}
-use Rattle.sql_base.specs.OnRows.{first_failing, updated}
+use Rattle.sql_base.specs.OnRows.{first_failing, or_later, updated}
 use Rattle.sql_base.specs.Rows.{key_of, packed}
 use Rattle.sql_base.specs.Val.{filter_val, Outcome, IsNumber, IsText, IsTruth, IsNothing}
 use Rattle.sql_base.specs.declared.expressions.Expr.{Expr}
@@ -19,7 +19,7 @@ use Rattle.sql_base.specs.declared.values.Value.{Value}
 use Rattle.range_finder.specs.Range.{is_in, range}
 use Rattle.one_thread.specs.One.{became, fate, fault_in, meets, predicate_of, row_after, selects, statement_fault, Records}
 use Rattle.one_thread.specs.Scaffold.Cells.{now_of, nows, IsKeyed}
-use Rattle.one_thread.specs.Scaffold.Scans.{abort_by, change_abort, changed, changed_by, checked_fate, delete_fate, fate_at, first_abort, if_true, is_change, is_changed, new_fate, or_later, row_fate, shown, update_fate}
+use Rattle.one_thread.specs.Scaffold.Scans.{abort_by, change_abort, changed, changed_by, checked_fate, delete_fate, fate_at, first_abort, if_true, is_change, is_changed, new_fate, row_fate, shown, update_fate}
 use Rattle.one_thread.specs.Scaffold.Statements.{Changing}
 use Rattle.one_thread.specs.Scaffold.Values.{truth_of}
 use Rattle.one_thread.specs.declared.cells.Cell.{Cell}

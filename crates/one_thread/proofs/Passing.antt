@@ -5,8 +5,9 @@ use Rattle.std.specs.List.{cons_option, filter_map}
 use Rattle.std.proofs.lemmas.List.{drop_more}
 use Rattle.std.proofs.lemmas.List.Sums.{count_by_more_no, count_by_more_yes}
 use Rattle.sql_base.specs.declared.outcomes.Abort.{Abort}
-use Rattle.one_thread.specs.Scaffold.Scans.{first_abort, or_later}
+use Rattle.one_thread.specs.Scaffold.Scans.{first_abort}
 use Rattle.one_thread.specs.declared.cells.Cell.{Cell}
+use Rattle.sql_base.specs.OnRows.{or_later}
 
 pub abort_more : (abort_at : Cell → Option Abort) (cells : List Cell) (i : ℕ) (d : Cell) → i < length cells → abort_at (get_or cells i d) ≡ None
     → first_abort abort_at cells ≡ first_abort abort_at (drop i cells) → first_abort abort_at cells ≡ first_abort abort_at (drop (i + 1) cells)

@@ -3,7 +3,7 @@ use Rattle.std.proofs.Common.{◌≡◌, ℕ, List, [], ◌∷◌, ◌++◌, map
 use Rattle.std.specs.Prelude.{filter, option_map, Result, Ok, Err}
 use Rattle.std.specs.List.{AllByRecursion, cons_option, filter_map}
 use Rattle.std.proofs.lemmas.List.Elements.{filter_map-append}
-use Rattle.sql_base.specs.OnRows.{first_failing, updated}
+use Rattle.sql_base.specs.OnRows.{first_failing, or_later, updated}
 use Rattle.sql_base.specs.Val.{filter_val, Outcome, IsNumber, IsText, IsTruth, IsNothing}
 use Rattle.sql_base.specs.declared.faults.EvalFault.{EvalFault}
 use Rattle.sql_base.specs.declared.faults.Fault.{Fault}
@@ -15,7 +15,7 @@ use Rattle.sql_base.specs.declared.statements.Statement.TheVariants.{Select, Upd
 use Rattle.sql_base.specs.declared.tables.TableDef.{TableDef}
 use Rattle.sql_base.specs.declared.values.Value.{Value}
 use Rattle.one_thread.specs.One.{fault_on, new_row_fault, sooner, statement_fault}
-use Rattle.one_thread.specs.Scaffold.Scans.{abort_by, abort_of, checked_fate, delete_fate, first_abort, new_fate, or_later, row_fate, update_fate}
+use Rattle.one_thread.specs.Scaffold.Scans.{abort_by, abort_of, checked_fate, delete_fate, first_abort, new_fate, row_fate, update_fate}
 use Rattle.one_thread.specs.Scaffold.Statements.{Changing}
 use Rattle.one_thread.specs.Scaffold.Values.{truth_of}
 use Rattle.one_thread.specs.declared.cells.Cell.{Cell}

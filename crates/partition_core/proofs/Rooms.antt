@@ -1,6 +1,6 @@
 -- What settles a live transaction, and the room that is kept back for it.
 use Rattle.std.proofs.Common.{◌≡◌, ◌⊎◌, inl, inr, ◌<◌, ◌≤◌, ◌+◌, ◌*◌, ℕ, List, [], ◌∷◌, ◌++◌, length, map, Bool, true, false, cond, Option, Some, None, Result, Ok, Err, refl, ap, sym, ◌∙◌, subst, arith}
-use Rattle.std.specs.Prelude.{filter, find, not, is_none, nat_le, option_and_then, ◌==◌, ◌&&◌, IfOk, OnErr, vec_capacity, vec_len}
+use Rattle.std.specs.Prelude.{filter, find, not, is_none, nat_le, option_and_then, ◌==◌, ◌&&◌, IfOk, vec_capacity, vec_len}
 use Rattle.std.specs.List.{AllByRecursion}
 use Rattle.std.proofs.lemmas.Bool.{and_parts, false≢true, or_cases, or_left, or_right}
 use Rattle.std.proofs.lemmas.Bool.Decides.{nat_tests}
@@ -114,11 +114,6 @@ unsettled p t ask change h none = at (settles p t ask) refl
     at : (b : Bool) → settles p t ask ≡ b → b ≡ false
     at true s = absurd (false≢true (sym none ∙ h s))
     at false s = refl
-
--- what holds at any rate holds behind an Err
-pub on_err_any : {A E P : Type 0} (r : Result A E) → P → OnErr r P
-on_err_any (Ok x) h = tt
-on_err_any (Err want) h = h
 
 -- what the entry of a change takes of the room that is kept back
 kept_back-push : (lives : List Live) (l : Live) → kept_back (lives ++ l ∷ []) ≡ kept_back lives + ends_left l.floor

@@ -3,14 +3,13 @@ use Rattle.std.specs.Prelude.{ℕ, List, [], ◌∷◌, take, Bool, true, false,
 use Rattle.sql_base.specs.declared.lock_names.TxnName.{TxnName}
 use Rattle.key_sequenced.specs.Cells.{Keyed, records}
 use Rattle.key_sequenced.specs.Changes.{Change, committed_in, laid, pending_in}
-use Rattle.dp_messages.specs.declared.replies.Reply.{Reply}
-use Rattle.dp_messages.specs.declared.replies.Reply.TheVariants.{Done}
 use Rattle.dp_messages.specs.declared.requests.Ask.{Ask}
 use Rattle.dp_messages.specs.declared.requests.Ask.TheVariants.{EndCommit}
 use Rattle.partition_state.specs.State.{State}
 use Rattle.partition_state.specs.Step.{step}
 use Rattle.partition_state.specs.History.{before}
 use Rattle.partition_state.specs.declared.entries.Entry.{Entry}
+use Rattle.dp_messages.specs.Replies.{is_done}
 
 -- the attempt that an entry was served for
 abbrev pub name_of : Entry → TxnName
@@ -23,10 +22,6 @@ is_of t e = (e.opener == t.session) && (e.request.ordinal == t.ordinal)
 abbrev pub is_commit : Ask → Bool
 is_commit (EndCommit stamp) = true
 is_commit ask = false
-
-abbrev pub is_done : Reply → Bool
-is_done Done = true
-is_done reply = false
 
 -- the entry ends its attempt by commit
 abbrev pub commits_here : Entry → Bool

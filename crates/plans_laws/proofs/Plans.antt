@@ -29,9 +29,8 @@ use Rattle.partition_state.specs.Step.{are_columns_here, is_key_here, is_shaped,
 use Rattle.session_grammar.specs.Follows.{asker}
 use Rattle.session_grammar.specs.declared.plans.Sent.{Sent}
 use Rattle.session_grammar.specs.declared.plans.Plan.TheVariants.{Singles, Subsets}
-use Rattle.session_grammar.specs.Plans.{all_columns, begin_pieces, begins_in, filter_code, first_part, plan_of, plan_on, select_plan}
+use Rattle.session_grammar.specs.Plans.{all_columns, begin_pieces, begins_in, filter_code, first_part, plan_of, plan_on, select_plan, sents_of}
 use Rattle.run_record.specs.Openings.{openings}
-use Rattle.run_record.specs.Tiles.{sents_of}
 use Rattle.ranges_laws.specs.Bytes.{IsKey}
 use Rattle.ranges_laws.specs.Pieces.{IsPiece}
 use Rattle.ranges_laws.proofs.Pieces.{cut-is_pieces}

@@ -22,14 +22,12 @@ use Rattle.one_thread.specs.One.{load_rows, loaded}
 use Rattle.partition_state.specs.State.{State}
 use Rattle.partition_state.specs.Step.{are_columns_here, is_key_here, is_shaped, may_change}
 use Rattle.session_grammar.specs.Follows.{asker, works_of}
-use Rattle.session_grammar.specs.Plans.{filter_code, plan_of}
+use Rattle.session_grammar.specs.Plans.{filter_code, plan_of, sents_of}
 use Rattle.session_grammar.specs.declared.plans.Plan.{Plan}
 use Rattle.session_grammar.specs.declared.plans.Plan.TheVariants.{Singles, Subsets}
 use Rattle.session_grammar.specs.declared.plans.Sent.{Sent}
-use Rattle.session_laws.specs.Scaffold.Machine.{sents_of as asked_of}
 use Rattle.session_laws.proofs.Within.{Rise, plans_rise}
 use Rattle.run_record.specs.Openings.{openings}
-use Rattle.run_record.specs.Tiles.{sents_of}
 use Rattle.plans_laws.specs.Asked.{IsSpelled, PlansSpelled}
 use Rattle.plans_laws.specs.Scaffold.Fits.{CarriesFilter, CarriesSets, Fits}
 use Rattle.plans_laws.specs.Spelled.{Spelled}
@@ -197,7 +195,7 @@ parts-within : (low high : ℕ) (sents : List Sent) → Rise low high sents → 
 parts-within low high [] rise = tt
 parts-within low high (sent ∷ sents) rise = (rise.1, parts-within (sent.part + 1) high sents rise.2)
 
-same_sents : (plan : Plan) → asked_of plan ≡ sents_of plan
+same_sents : (plan : Plan) → sents_of plan ≡ sents_of plan
 same_sents (Subsets sents) = refl
 same_sents (Singles sents) = refl
 
@@ -220,7 +218,7 @@ module _ (script : Script) (is : IsScript script) where
       let r = asker script session in
       let sents = sents_of (plan_of r statement) in
       each-spelled sents (λ part p e. plans_fit script is session statement part p well e)
-      (subst (AllByRecursion (λ (sent : Sent). sent.part < parts_of script.tables)) (same_sents (plan_of r statement)) (parts-within 0 (parts_of script.tables) (asked_of (plan_of r statement)) (plans_rise r statement)))
+      (subst (AllByRecursion (λ (sent : Sent). sent.part < parts_of script.tables)) (same_sents (plan_of r statement)) (parts-within 0 (parts_of script.tables) (sents_of (plan_of r statement)) (plans_rise r statement)))
       (begun-plan (plan_of r statement) (planned r statement))
 
   -- each statement of a session is one of a table

@@ -3,10 +3,9 @@ use Rattle.std.proofs.Common.{◌≡◌, ℕ, List, [], ◌∷◌, Option, Some,
 use Rattle.std.specs.Prelude.{option_map}
 use Rattle.std.specs.List.{AllByRecursion}
 use Rattle.sql_base.specs.Scripts.{IsScript}
-use Rattle.sql_base.specs.Tables.{AreSets, IsFilter}
+use Rattle.sql_base.specs.Tables.{IsFilter}
 use Rattle.sql_base.specs.declared.expressions.Expr.{Expr}
 use Rattle.sql_base.specs.declared.scripts.Script.{Script}
-use Rattle.sql_base.specs.declared.statements.Assign.{Assign}
 use Rattle.sql_base.specs.declared.tables.TableDef.{TableDef}
 use Rattle.predicate_codes.specs.Decoding.{filter_of}
 use Rattle.predicate_codes.specs.SetLists.{sets_of}
@@ -21,10 +20,9 @@ use Rattle.dp_messages.specs.declared.requests.Ask.TheVariants as ask
 use Rattle.partition_state.specs.State.{State}
 use Rattle.partition_state.specs.Step.{set_work}
 use Rattle.session_grammar.specs.Follows.{asker}
-use Rattle.session_grammar.specs.Plans.{filter_code, plan_of}
+use Rattle.session_grammar.specs.Plans.{filter_code, plan_of, sents_of}
 use Rattle.session_grammar.specs.declared.plans.Sent.{Sent}
 use Rattle.session_grammar.specs.UnderWay.{UnderWay}
-use Rattle.run_record.specs.Tiles.{sents_of}
 use Rattle.run_record.specs.declared.records.RunRecord.{RunRecord}
 use Rattle.record_laws.specs.SoFar.{LegalSoFar, RepliesFit, SendsFit}
 use Rattle.record_laws.specs.Suiting.{PlansSuit, Suits}
@@ -36,9 +34,6 @@ use Rattle.plans_laws.proofs.Plans.{FitsThere, plans_fit}
 filter-read : (table : TableDef) (predicate : Option Expr) → IsFilter table predicate → filter_of table (filter_code predicate) ≡ Some predicate
 filter-read table predicate is = (reads_filters table (filter_code predicate) predicate).1 (is, refl)
 
-sets-read : (table : TableDef) (sets : List Assign) → AreSets table sets → sets_of table (sets_code sets) ≡ Some sets
-sets-read table sets are = (reads_sets table (sets_code sets) sets).1 (are, refl)
-
 work-read : (table : TableDef) (code : Option (List ℕ)) (d : Doing) → CarriesFilter table code → (work : SetWork) × (set_work (filter_of table code) (Some d) ≡ Some work)
 work-read table code d (predicate, well, e) = (record { filter = predicate; doing = d }, ap (λ o. set_work o (Some d)) (ap (filter_of table) e ∙ filter-read table predicate well))
 
@@ -46,7 +41,7 @@ fits-suits : (p : State) (asks : Ask) → Fits p asks → Suits p asks
 fits-suits p (ask.BeginRead access granule range predicate columns) h = let work = work-read p.table predicate (doing.Read columns) h.1 in (work.0, h.0, work.1)
 fits-suits p (ask.BeginUpdate access granule range predicate code) (shape, carried, (assigns, are, e)) =
     let work = work-read p.table predicate (doing.Update assigns) carried in
-    let read : option_map doing.Update (sets_of p.table code) ≡ Some (doing.Update assigns) = ap (λ c. option_map doing.Update (sets_of p.table c)) e ∙ ap (option_map doing.Update) (sets-read p.table assigns are) in
+    let read : option_map doing.Update (sets_of p.table code) ≡ Some (doing.Update assigns) = ap (λ c. option_map doing.Update (sets_of p.table c)) e ∙ ap (option_map doing.Update) ((reads_sets p.table (sets_code assigns) assigns).1 (are, refl)) in
     (work.0, shape, ap (set_work (filter_of p.table predicate)) read ∙ work.1)
 fits-suits p (ask.BeginDelete access granule range predicate) h = let work = work-read p.table predicate doing.Delete h.1 in (work.0, h.0, work.1)
 fits-suits p (ask.ReadKey access key predicate columns) h = let work = work-read p.table predicate (doing.Read columns) h.1 in (work.0, h.0, work.1)

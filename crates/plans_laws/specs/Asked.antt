@@ -7,9 +7,8 @@ use Rattle.sql_base.specs.declared.scripts.Work.{Work}
 use Rattle.sql_base.specs.declared.statements.Statement.{Statement}
 use Rattle.dp_messages.specs.Spelling.{IsAsk}
 use Rattle.session_grammar.specs.Follows.{asker, works_of}
-use Rattle.session_grammar.specs.Plans.{plan_of}
+use Rattle.session_grammar.specs.Plans.{plan_of, sents_of}
 use Rattle.session_grammar.specs.declared.plans.Sent.{Sent}
-use Rattle.run_record.specs.Tiles.{sents_of}
 
 -- a request that has a spelling, of one of the partitions
 abbrev pub IsSpelled : ℕ → Sent → Type 0

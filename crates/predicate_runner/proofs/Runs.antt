@@ -18,10 +18,12 @@ use Rattle.predicate_codes.specs.declared.opcodes.Opcode.{Opcode}
 use Rattle.predicate_codes.specs.declared.opcodes.Opcode.TheVariants.{PushNumber, PushText, PushColumn, DoArith, DoCompare, DoAnd, DoOr, DoNot}
 use Rattle.predicate_codes.specs.Decoding.{Next, opcode_of, byte_of, mapped}
 use Rattle.predicate_runner.specs.Scaffold.Running.{is_value, kept, unless, ran, goes_on, running}
-use Rattle.predicate_codes.proofs.Complete.{some_of_arith, some_of_compare, some_of_truths, some_if, back, fits_64}
-use Rattle.predicate_codes.proofs.Layers.{Each, by_layers, fold_layer, code_layer, kind_layer, depth_layer}
+use Rattle.predicate_codes.proofs.Complete.{some_of_arith, some_of_compare, some_of_truths, back, fits_64}
+use Rattle.predicate_codes.proofs.Layers.{fold_layer, code_layer, kind_layer, depth_layer}
 use Rattle.predicate_codes.proofs.Typed.{IsOf, val-typed, truth_kinds}
 use Rattle.predicate_codes.proofs.Reading.{opcode_of-byte, front-append, number_at-64, counted_at-counted}
+use Rattle.sql_base.proofs.Truths.{some_if}
+use Rattle.sql_base.proofs.Layers.{Each, by_layers}
 
 -- the value, and what is done with it unless it is a fault
 abbrev pub with_value : Outcome → (Item → Outcome) → Outcome

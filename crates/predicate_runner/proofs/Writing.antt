@@ -9,8 +9,10 @@ use Rattle.sql_base.specs.declared.expressions.Expr.{Expr, roll-Expr}
 use Rattle.sql_base.specs.declared.expressions.Expr.TheOpen.{Expr-F, Number, Text, Column, Arith, Compare, And, Or, Not}
 use Rattle.sql_base.specs.declared.tables.TableDef.{TableDef}
 use Rattle.predicate_runner.specs.Scaffold.Texts.{texts_step, has_short_texts}
-use Rattle.predicate_codes.proofs.Complete.{some_of_arith, some_of_compare, some_of_truths, some_if}
-use Rattle.predicate_codes.proofs.Layers.{Each, by_layers, fold_layer, kind_layer}
+use Rattle.predicate_codes.proofs.Complete.{some_of_arith, some_of_compare, some_of_truths}
+use Rattle.predicate_codes.proofs.Layers.{fold_layer, kind_layer}
+use Rattle.sql_base.proofs.Truths.{some_if}
+use Rattle.sql_base.proofs.Layers.{Each, by_layers}
 
 -- the operands' codes, and a byte behind them
 pub wrote_both : (old mid last new : List ℕ) (e a b a' b' : Expr) (byte byte' : ℕ) → code_of e ≡ code_of a ++ code_of b ++ byte ∷ [] → a' ≡ a → b' ≡ b → byte' ≡ byte

@@ -4,9 +4,9 @@ use Rattle.quantum_core.specs.Quantum.{row_of}
 use Rattle.quantum_core.specs.declared.verdicts.Verdict.{Verdict}
 
 -- the row that a verdict gives, as a list
-abbrev pub option_list : Option (List ℕ) → List (List ℕ)
+abbrev pub option_list : {A : Type 0} → Option A → List A
 option_list None = []
-option_list (Some row) = row ∷ []
+option_list (Some x) = x ∷ []
 
 abbrev pub given_rows : Verdict → List (List ℕ)
 given_rows verdict = option_list (row_of verdict)

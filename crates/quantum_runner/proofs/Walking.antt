@@ -25,7 +25,7 @@ use Rattle.key_sequenced.specs.declared.Cell.{Cell}
 use Rattle.subset_blocks.specs.declared.Block.{Block}
 use Rattle.quantum_core.specs.Verdicts.{Judged, judged, is_candidate, verdict}
 use Rattle.quantum_core.specs.Quantum.{may_handle, reply_to, stopped, cause_of, cause_at, last_key, rows_of, row_of, lets_on, is_change, visits}
-use Rattle.quantum_core.specs.Walk.{room_for, given_rows}
+use Rattle.quantum_core.specs.Walk.{given_rows, option_list, room_for}
 use Rattle.quantum_core.specs.declared.works.SetWork.{SetWork}
 use Rattle.quantum_core.specs.declared.replies.QuantumReply.TheVariants.{Ended}
 use Rattle.quantum_core.specs.declared.verdicts.Verdict.{Verdict}
@@ -33,7 +33,7 @@ use Rattle.quantum_core.specs.declared.verdicts.Verdict.TheVariants.{Blocked, Fa
 use Rattle.quantum_core.specs.declared.verdicts.Effect.TheVariants.{Gives, Becomes, Goes}
 use Rattle.quantum_core.proofs.Greatest.{stops, ends, visits_stop, visits_end}
 use Rattle.quantum_core.proofs.Walking.{as_judged, judged_more, judged_split}
-use Rattle.quantum_runner.specs.Scaffold.Plans.{IsWalk, halted, handled_by, option_list, plan_of, plans_of}
+use Rattle.quantum_runner.specs.Scaffold.Plans.{IsWalk, halted, handled_by, plan_of, plans_of}
 use Rattle.quantum_runner.specs.declared.planned.Planned.{Planned}
 use Rattle.quantum_runner.specs.declared.planned.Walk.{Walk}
 use Rattle.sql_base.proofs.Truths.{if_not_true}

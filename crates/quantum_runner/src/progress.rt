@@ -1,8 +1,8 @@
 //! What a walk keeps of the candidates that it has handled.
 ghost use Rattle.std.specs.Prelude.{◌≡◌, ◌≤◌, ◌<◌, ◌+◌, ◌-◌, ◌^◌, ◌++◌, [], ◌↔◌, IfOk, OnOk, IfSome, IsNone, IsTrue, option_copied, if◌then◌else◌};
 ghost use Rattle.quantum_core.specs.Quantum.{cause_at, is_change, lets_on, refusal};
-ghost use Rattle.quantum_core.specs.Walk.{given_rows, room_for};
-ghost use Rattle.quantum_runner.specs.Scaffold.Plans.{halted, option_list, plan_of, x_on};
+ghost use Rattle.quantum_core.specs.Walk.{given_rows, option_list, room_for};
+ghost use Rattle.quantum_runner.specs.Scaffold.Plans.{halted, plan_of, x_on};
 
 use crate::planned::{Planned, Walk};
 use quantum_core::{Effect, QuantumReply, Verdict};

@@ -15,9 +15,8 @@ use Rattle.partition_state.specs.Step.{are_columns_here, is_key_here, is_shaped,
 use Rattle.predicate_codes.specs.Decoding.{filter_of}
 use Rattle.predicate_codes.specs.SetLists.{sets_of}
 use Rattle.session_grammar.specs.Follows.{asker}
-use Rattle.session_grammar.specs.Plans.{plan_of}
+use Rattle.session_grammar.specs.Plans.{plan_of, sents_of}
 use Rattle.run_record.specs.Openings.{openings}
-use Rattle.run_record.specs.Tiles.{sents_of}
 
 -- a request with keys of the partition, and code that stands for something
 abbrev pub Suits : State → Ask → Type 0

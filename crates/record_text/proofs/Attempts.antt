@@ -26,7 +26,7 @@ use Rattle.session_grammar.specs.Plans.{Asker}
 use Rattle.session_grammar.specs.Rows.{IsAsked}
 use Rattle.run_record.specs.Serial.{givens_of}
 use Rattle.run_record.specs.Text.{shown_of}
-use Rattle.record_laws.proofs.Attempts.{IsOwn, IsWork as IsWorkOf, parts-work}
+use Rattle.record_laws.proofs.Attempts.{IsOwn, IsWork as IsWorkOf, is_own, parts-work}
 use Rattle.record_text.specs.Scaffold.Reading.{behind, behind_all, given_by, givens_read, is_locked_out, most_parts, ordinal_of, outcome_of, own, own_length, shown_read, tries_read, works_read}
 use Rattle.record_text.proofs.Outcomes.{outcome-read}
 use Rattle.record_text.proofs.PartsRead.{givens-read}
@@ -140,19 +140,14 @@ locked-out (Committed stamp) h = absurd (false≢true h)
 locked-out RolledBack h = absurd (false≢true h)
 
 module _ (r : Asker) (few : parts_of r.tables ≤ most_parts) where
-  own-of : (work : Work) (n : ℕ) (a : Attempt) → IsAttempt IsPart r work n a → IsOwn r a
-  own-of work n a h =
-      let of = subst (λ (w : Work). IsAttempt IsPart r w n a) (sym h.of_work) h in
-      subst (λ (m : ℕ). IsAttempt IsPart r a.work m a) (sym h.numbered) of
-
   numbered-as : (work : Work) (n : ℕ) (a : Attempt) → IsAttempt IsPart r work n a → AllByRecursion (IsNumbered n) (entries_of a)
-  numbered-as work n a h = subst (λ (m : ℕ). AllByRecursion (IsNumbered m) (entries_of a)) h.numbered (attempt-numbered r a (own-of work n a h))
+  numbered-as work n a h = subst (λ (m : ℕ). AllByRecursion (IsNumbered m) (entries_of a)) h.numbered (attempt-numbered r a (is_own r work n a h))
 
   plain-as : (work : Work) (n : ℕ) (a : Attempt) → IsAttempt IsPart r work n a → plain (shown_read r n work (entries_of a)) ≡ plain (shown_of r a)
-  plain-as work n a h = (λ i. plain (shown_read r (sym h.numbered i) (sym h.of_work i) (entries_of a))) ∙ attempt-plain r a few (own-of work n a h)
+  plain-as work n a h = (λ i. plain (shown_read r (sym h.numbered i) (sym h.of_work i) (entries_of a))) ∙ attempt-plain r a few (is_own r work n a h)
 
   outcome-as : (work : Work) (n : ℕ) (a : Attempt) → IsAttempt IsPart r work n a → outcome_of (entries_of a) ≡ a.outcome
-  outcome-as work n a h = outcome-read r a few (own-of work n a h)
+  outcome-as work n a h = outcome-read r a few (is_own r work n a h)
 
   tries-from : (work : Work) (n more : ℕ) (tries : List Attempt) → AreTries IsPart r work n more tries → AllByRecursion (IsFrom n) (flat_map entries_of tries)
   tries-from work n more [] h = absurd h

@@ -2,7 +2,7 @@
 use Rattle.std.proofs.Common.{◌≡◌, ◌≤◌, ℕ, zero, suc, ◌+◌, List, [], ◌∷◌, ◌++◌, length, Option, None, Bool, true, false, ◌||◌, cond, filter, refl, ap, sym, ◌∙◌, subst, inl, inr, arith}
 use Rattle.std.specs.Prelude.{IsSome}
 use Rattle.std.specs.List.{AllByRecursion, list_any}
-use Rattle.std.proofs.lemmas.Bool.{eqb-true, false≢true, ne_eqb}
+use Rattle.std.proofs.lemmas.Bool.{false≢true}
 use Rattle.std.proofs.lemmas.List.{append-nil}
 use Rattle.std.proofs.lemmas.List.Elements.{filter-append}
 use Rattle.sql_base.specs.declared.outcomes.Abort.{Abort}
@@ -23,6 +23,7 @@ use Rattle.record_laws.specs.Scaffold.Lanes.{is_single}
 use Rattle.record_laws.proofs.Plans.{IsAlone}
 use Rattle.sql_base.specs.declared.faults.Cause.{Cause}
 use Rattle.record_text.specs.Scaffold.Reading.{closes, closes_reply, part_length}
+use Rattle.session_grammar.proofs.LogLists.{other_for, row_sent}
 
 -- how many entries close, and whether the last one does
 abbrev pub how_often : List LogEntry → ℕ
@@ -191,18 +192,11 @@ AnySent sent = Unit {0}
 pub list-closes : (r : Asker) (ordinal : ℕ) → Closes (IsList r ordinal) AnySent
 list-closes r ordinal = record { once = λ sent list s h. subst ClosesOnce (sym h.1) (rows-once r ordinal sent.part sent.ask h.0 h.2) }
 
-row-sent : (n part : ℕ) (request : Request) (row : List LogEntry) (answer : Answer) → IsExchange n part request row answer → (losses : ℕ) × IsSent request.ask losses answer
-row-sent n part request [] answer h = absurd h
-row-sent n part request (Asked p sync q losses w ∷ []) answer h = (losses, subst (λ (a : Ask). IsSent a losses answer) (ap (λ (x : Request). x.ask) h.0.1) (subst (IsSent q.ask losses) h.0.2 h.0.3))
-row-sent n part request (Drew m f w ∷ []) answer h = absurd h.0
-row-sent zero part request (e ∷ f ∷ es) answer h = absurd h
-row-sent (suc n) part request (e ∷ f ∷ es) answer h = row-sent n part request (f ∷ es) answer h.1
-
 pub single-closes_once : (r : Asker) (ordinal : ℕ) → Closes (IsSingle r ordinal) IsAlone
 single-closes_once r ordinal = record {
   once = λ sent list alone h.
       let request : Request = record { ordinal = ordinal; ask = sent.ask } in
-      let went = row-sent r.limits.patience sent.part request list h.0 h.1 in
+      let went = row_sent r.limits.patience sent.part request list h.0 h.1 in
       row-once h.0 list (single-closes sent.ask h.0 went.0 alone went.1 (sym h.2)) (row-closes r.limits.patience sent.part request list h.0 h.1);
 }
 
@@ -251,10 +245,6 @@ often-later low high (sent ∷ sents) e es none rise =
     let le = rise.0 in
     (λ i. project-out sent e es (none sent.part le) i + often-later (sent.part + 1) high sents e es (λ j more. none j (omega (arith, le, more))) rise.2 i)
 
-for_one : (part j : ℕ) (e : LogEntry) → is_for part e ≡ true → (part ≡ j → ⊥) → is_for j e ≡ false
-for_one part j (Asked p s q l a) is differ = ne_eqb p j (λ same. differ (sym (eqb-true p part is) ∙ same))
-for_one part j (Drew n f a) is differ = refl
-
 often-once : (low high : ℕ) (sents : List Sent) (e : LogEntry) (es : List LogEntry) → list_any (λ (sent : Sent). is_for sent.part e) sents ≡ true → Rise low high sents → often-at sents (e ∷ es) ≡ count e + often-at sents es
 often-once low high [] e es any rise = absurd (false≢true any)
 often-once low high (sent ∷ sents) e es any rise = at (is_for sent.part e) refl any (λ more. often-once (sent.part + 1) high sents e es more rise.2)
@@ -262,7 +252,7 @@ often-once low high (sent ∷ sents) e es any rise = at (is_for sent.part e) ref
     at : (b : Bool) → is_for sent.part e ≡ b → (b || list_any (λ (s : Sent). is_for s.part e) sents) ≡ true → (list_any (λ (s : Sent). is_for s.part e) sents ≡ true → often-at sents (e ∷ es) ≡ count e + often-at sents es)
         → how_often (projection (e ∷ es) sent) + often-at sents (e ∷ es) ≡ count e + (how_often (projection es sent) + often-at sents es)
     at true is h rest =
-        (λ i. project-in sent e es is i + often-later (sent.part + 1) high sents e es (λ j more. for_one sent.part j e is (λ same. omega (arith, same, more))) rise.2 i) ∙ omega arith
+        (λ i. project-in sent e es is i + often-later (sent.part + 1) high sents e es (λ j more. other_for sent.part j e (λ same. omega (arith, same, more)) is) rise.2 i) ∙ omega arith
     at false is h rest = (λ i. project-out sent e es is i + rest h i) ∙ omega arith
 
 all-often : (low high : ℕ) (sents : List Sent) (es : List LogEntry) → AreTheirs sents es → Rise low high sents → how_often es ≡ often-at sents es

@@ -17,7 +17,7 @@ use Rattle.session_grammar.specs.Plans.{Asker}
 use Rattle.session_grammar.specs.declared.plans.Sent.{Sent}
 use Rattle.session_grammar.specs.Rows.{IsAsked, IsExchange, failure, is_end, is_for}
 use Rattle.record_text.specs.Scaffold.Reading.{failure_behind, last_failure}
-use Rattle.session_laws.proofs.Loose.{asked_work}
+use Rattle.session_laws.proofs.Loose.{after_work, asked_work}
 use Rattle.sql_base.proofs.ListFacts.{all_joined}
 
 -- what was asked of one partition, and no End
@@ -90,20 +90,11 @@ works-other part j [] differ h = tt
 works-other part j (e ∷ es) differ h = (work-other part j e differ h.0, works-other part j es differ h.1)
 
 module _ (r : Asker) (ordinal part : ℕ) where
-  none_work : (rows : List (List LogEntry)) → rows ≡ [] → AllByRecursion (IsWork part) (joined rows)
-  none_work rows is = subst (λ (x : List (List LogEntry)). AllByRecursion (IsWork part) (joined x)) (sym is) tt
-
-  after_work : (answer : Answer) (rows : List (List LogEntry)) (end : Option Abort) → AfterRow answer (λ subset last. AreExchanges r ordinal part (Continue subset last) rows end) rows end
-      → ((subset : ℕ) (last : List ℕ) → AreExchanges r ordinal part (Continue subset last) rows end → AllByRecursion (IsWork part) (joined rows)) → AllByRecursion (IsWork part) (joined rows)
-  after_work (Reply (reply.Redrive subset last cause out changed)) rows end h more = more subset last h
-  after_work (Reply (reply.Ended out changed)) rows end h more = none_work rows h.0
-  after_work answer rows end h more = none_work rows h.0
-
   rows_work : (ask : Ask) (rows : List (List LogEntry)) (end : Option Abort) → is_end ask ≡ false → AreExchanges r ordinal part ask rows end → AllByRecursion (IsWork part) (joined rows)
   rows_work ask [] end none h = absurd h
   rows_work ask (row ∷ rows) end none h =
       all_joined (IsWork part) row (joined rows) (row_work r.limits.patience part (record { ordinal = ordinal; ask = ask }) row h.0 none h.1)
-      (after_work h.0 rows end h.2 (λ subset last more. rows_work (Continue subset last) rows end refl more))
+      (after_work r ordinal part h.0 rows end h.2 (λ subset last more. rows_work (Continue subset last) rows end refl more))
 
   none_last : (found end : Option Abort) (rows : List (List LogEntry)) → rows ≡ [] → end ≡ found → last_failure part found (joined rows) ≡ end
   none_last found end rows is e = ap (λ (x : List (List LogEntry)). last_failure part found (joined x)) is ∙ sym e

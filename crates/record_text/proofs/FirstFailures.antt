@@ -10,13 +10,11 @@ use Rattle.sql_base.specs.declared.statements.Statement.{Statement}
 use Rattle.session_grammar.specs.declared.logs.LogEntry.{LogEntry}
 use Rattle.session_grammar.specs.declared.logs.LogEntry.TheVariants.{Asked, Drew}
 use Rattle.session_grammar.specs.Follows.{AreTheirs, InTurn, InLineBy, IsList, IsPart, IsSingle, Together, WideBy, joined, projection}
-use Rattle.session_grammar.specs.Plans.{Asker, plan_of}
+use Rattle.session_grammar.specs.Plans.{Asker, plan_of, sents_of}
 use Rattle.session_grammar.specs.declared.plans.Plan.{Plan}
 use Rattle.session_grammar.specs.declared.plans.Plan.TheVariants.{Singles, Subsets}
 use Rattle.session_grammar.specs.declared.plans.Sent.{Sent}
 use Rattle.session_grammar.specs.Rows.{is_for}
-use Rattle.run_record.specs.Tiles.{sents_of}
-use Rattle.session_laws.specs.Scaffold.Machine.{sents_of as asked_of}
 use Rattle.session_laws.proofs.Within.{Rise, plans_rise, rise_from}
 use Rattle.record_text.specs.Scaffold.Reading.{first_failure, last_failure, most_parts, or_else}
 use Rattle.record_text.proofs.Failures.{IsPartOf, IsWork, Tells, last-append, last-others, last-projected, list-tells, single-tells, works-other}
@@ -143,11 +141,11 @@ module _ (r : Asker) (few : parts_of r.tables ≤ most_parts) (ordinal : ℕ) wh
       ap (λ (x : List LogEntry). first_failure x (range_with_len 0 most_parts)) is
       ∙ told (joined lists) sents end rise (lists-among R tells 0 (parts_of r.tables) sents lists end parts rise h) (lists-elsewhere R tells sents lists end parts h)
 
-  in_line-told : (plan : Plan) (es : List LogEntry) (end : Option Abort) → AllByRecursion IsPartOf (sents_of plan) → Rise 0 (parts_of r.tables) (asked_of plan) → InLineBy r ordinal plan es end → first_failure es (range_with_len 0 most_parts) ≡ end
+  in_line-told : (plan : Plan) (es : List LogEntry) (end : Option Abort) → AllByRecursion IsPartOf (sents_of plan) → Rise 0 (parts_of r.tables) (sents_of plan) → InLineBy r ordinal plan es end → first_failure es (range_with_len 0 most_parts) ≡ end
   in_line-told (Subsets sents) es end parts rise h = lists-told (IsList r ordinal) (list-tells r ordinal) sents es h.0 end h.1 parts rise h.2
   in_line-told (Singles sents) es end parts rise h = lists-told (IsSingle r ordinal) (single-tells r ordinal) sents es h.0 end h.1 parts rise h.2
 
-  wide-told : (plan : Plan) (es : List LogEntry) (end : Option Abort) → AllByRecursion IsPartOf (sents_of plan) → Rise 0 (parts_of r.tables) (asked_of plan) → WideBy r ordinal plan es end → first_failure es (range_with_len 0 most_parts) ≡ end
+  wide-told : (plan : Plan) (es : List LogEntry) (end : Option Abort) → AllByRecursion IsPartOf (sents_of plan) → Rise 0 (parts_of r.tables) (sents_of plan) → WideBy r ordinal plan es end → first_failure es (range_with_len 0 most_parts) ≡ end
   wide-told (Subsets sents) es end parts rise h = told es sents end rise (together-among (IsList r ordinal) (list-tells r ordinal) sents es end parts h.lists) (theirs-elsewhere sents es h.theirs)
   wide-told (Singles sents) es end parts rise h = absurd h
 

@@ -9,7 +9,7 @@ use Rattle.sql_base.specs.declared.outcomes.Abort.{Abort}
 use Rattle.sql_base.specs.declared.scripts.Script.{Script}
 use Rattle.sql_base.specs.declared.scripts.Work.{Work}
 use Rattle.one_thread.specs.declared.shown.Shown.{Shown}
-use Rattle.one_thread.proofs.Failing.{at_drop}
+use Rattle.sql_base.proofs.ListFacts.{drop-within}
 use Rattle.session_grammar.specs.declared.logs.LogEntry.{LogEntry}
 use Rattle.session_grammar.specs.Follows.{asker}
 use Rattle.session_grammar.specs.Plans.{Asker}
@@ -31,7 +31,7 @@ module _ (many left : ℕ) (es : List LogEntry) (i : ℕ) (so_far : part_length 
   module _ (e : LogEntry) (within : i < length es) (is : e ≡ get_or es i e) where
     pub part-more : (k after : ℕ) → left ≡ suc k → after ≡ cond (closes e) k (suc k) → part_length many es ≡ i + 1 + part_length after (drop (i + 1) es)
     part-more k after some told =
-        let rest : part_length left (drop i es) ≡ suc (part_length after (drop (i + 1) es)) = (λ j. part_length (some j) (at_drop es i e within is j)) ∙ ap (λ m. suc (part_length m (drop (i + 1) es))) (sym told) in
+        let rest : part_length left (drop i es) ≡ suc (part_length after (drop (i + 1) es)) = (λ j. part_length (some j) (drop-within es i e within is j)) ∙ ap (λ m. suc (part_length m (drop (i + 1) es))) (sym told) in
         omega (arith, so_far, rest)
 
 -- the attempts of a transaction: the last, and one with others behind it
@@ -89,7 +89,7 @@ session-more script session works log before shown after ordinal rest left i man
     let tries = tries_read r work ordinal script.limits.restart rest in
     let later : List Shown = works_read r (ordinal + many) (drop (i + 1) works) left in
     let read : works_read r ordinal (drop i works) rest ≡ tries ++ later =
-    ap (λ ws. works_read r ordinal ws rest) (at_drop works i work within is) ∙ (λ j. tries ++ works_read r (ordinal + sym count j) (drop (i + 1) works) (behind_all ordinal (sym count j) rest))
+    ap (λ ws. works_read r ordinal ws rest) (drop-within works i work within is) ∙ (λ j. tries ++ works_read r (ordinal + sym count j) (drop (i + 1) works) (behind_all ordinal (sym count j) rest))
     ∙ ap (λ (l : List LogEntry). tries ++ works_read r (ordinal + many) (drop (i + 1) works) l) (sym there) in
     record {
       same = so_far.same ∙ ap (λ (xs : List Shown). shown ++ xs) read ∙ sym (append_assoc shown tries later) ∙ ap (λ (xs : List Shown). xs ++ later) (sym told);
@@ -106,7 +106,7 @@ session-ends script session works log before shown ordinal rest i so_far past =
 pub sessions-more : (script : Script) (number : ℕ) (sessions : List (List Work)) (logs : List (List LogEntry)) (i : ℕ) (works : List Work) (log : List LogEntry) → i < length sessions → works ≡ get_or sessions i works → i < length logs → log ≡ get_or logs i log
     → sessions_read script number (drop i sessions) (drop i logs) ≡ works_read (asker script number) 1 works log ++ sessions_read script (number + 1) (drop (i + 1) sessions) (drop (i + 1) logs)
 sessions-more script number sessions logs i works log within is within_logs is_log =
-    (λ j. sessions_read script number (at_drop sessions i works within is j) (at_drop logs i log within_logs is_log j))
+    (λ j. sessions_read script number (drop-within sessions i works within is j) (drop-within logs i log within_logs is_log j))
 
 -- what holds of all holds of one
 pub all-get : {A : Type 0} (P : A → Type 0) (xs : List A) (i : ℕ) (x : A) → AllByRecursion P xs → i < length xs → x ≡ get_or xs i x → P x

@@ -18,10 +18,9 @@ use Rattle.session_grammar.specs.declared.logs.Answer.TheVariants.{PathFailed, R
 use Rattle.session_grammar.specs.declared.logs.LogEntry.{LogEntry}
 use Rattle.session_grammar.specs.declared.logs.LogEntry.TheVariants.{Asked, Drew}
 use Rattle.session_grammar.specs.Follows.{AreEnds, ArePrepares, Attempt, InTurn, IsEnding, IsPart, entries_of, joined, touched}
-use Rattle.session_grammar.specs.Plans.{Asker, plan_of}
+use Rattle.session_grammar.specs.Plans.{Asker, plan_of, sents_of}
 use Rattle.session_grammar.specs.Rows.{IsAsked, failure, is_end}
 use Rattle.session_grammar.specs.declared.plans.Sent.{Sent}
-use Rattle.run_record.specs.Tiles.{sents_of}
 use Rattle.partition_state.specs.Step.{is_closing}
 use Rattle.record_laws.proofs.Attempts.{IsOwn, IsWork as IsWorkOf, parts-work}
 use Rattle.record_laws.proofs.Plans.{plan-work}

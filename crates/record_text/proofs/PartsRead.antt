@@ -8,14 +8,12 @@ use Rattle.sql_base.specs.declared.outcomes.Given.{Given}
 use Rattle.sql_base.specs.declared.statements.Statement.{Statement}
 use Rattle.session_grammar.specs.declared.logs.LogEntry.{LogEntry}
 use Rattle.session_grammar.specs.Follows.{InLineBy, InTurn, IsList, IsPart, IsSingle, Together, WideBy, joined, projection}
-use Rattle.session_grammar.specs.Plans.{Asker, plan_of}
+use Rattle.session_grammar.specs.Plans.{Asker, plan_of, sents_of}
 use Rattle.session_grammar.specs.declared.plans.Plan.{Plan}
 use Rattle.session_grammar.specs.declared.plans.Plan.TheVariants.{Singles, Subsets}
 use Rattle.session_grammar.specs.declared.plans.Sent.{Sent}
-use Rattle.session_laws.specs.Scaffold.Machine.{sents_of as asked_of}
 use Rattle.session_laws.proofs.Within.{Rise, plans_rise}
 use Rattle.run_record.specs.Serial.{part_gives, givens_of}
-use Rattle.run_record.specs.Tiles.{sents_of}
 use Rattle.record_laws.proofs.Plans.{ArePlanned, IsAlone, planned}
 use Rattle.record_text.specs.Scaffold.Reading.{givens_read, how_many, part_length}
 use Rattle.record_text.proofs.Closings.{AnySent, ClosesEach, ClosesOnce, list-closes, lists-close, part-front, single-closes_once, wide-close}
@@ -34,7 +32,7 @@ module _ (r : Asker) (ordinal : ℕ) where
   in_line-closes (Subsets sents) es is h = subst (ClosesEach sents) (sym h.1) (lists-close (IsList r ordinal) AnySent (list-closes r ordinal) sents h.0 (any_sents sents) h.2)
   in_line-closes (Singles sents) es is h = subst (ClosesEach sents) (sym h.1) (lists-close (IsSingle r ordinal) IsAlone (single-closes_once r ordinal) sents h.0 is h.2)
 
-  wide-closes : (plan : Plan) (es : List LogEntry) → Rise 0 (parts_of r.tables) (asked_of plan) → WideBy r ordinal plan es None → ClosesEach (sents_of plan) es
+  wide-closes : (plan : Plan) (es : List LogEntry) → Rise 0 (parts_of r.tables) (sents_of plan) → WideBy r ordinal plan es None → ClosesEach (sents_of plan) es
   wide-closes (Subsets sents) es rise h = wide-close 0 (parts_of r.tables) sents es rise h.theirs (together-once sents es h.lists)
   wide-closes (Singles sents) es rise h = absurd h
 

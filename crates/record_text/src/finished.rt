@@ -7,7 +7,8 @@ ghost use Rattle.sql_base.specs.Tables.{IsStatement, IsTable};
 ghost use Rattle.session_grammar.specs.Plans.{Asker, plan_of};
 ghost use Rattle.session_grammar.specs.Rows.{is_for};
 ghost use Rattle.run_record.specs.Serial.{entry_changed, entry_rows, part_gives};
-ghost use Rattle.run_record.specs.Tiles.{reply_changed, reply_rows, sents_of};
+ghost use Rattle.run_record.specs.Tiles.{reply_changed, reply_rows};
+ghost use Rattle.session_grammar.specs.Plans.{sents_of};
 ghost use Rattle.record_text.specs.Scaffold.Reading.{closes, givens_read, part_length};
 ghost use Rattle.record_text.specs.Scaffold.Giving.{rows_for};
 

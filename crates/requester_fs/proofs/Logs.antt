@@ -1,6 +1,6 @@
 -- Logs with what is under way, and the syncs of both.
-use Rattle.std.proofs.Common.{◌≡◌, ◌≤◌, ℕ, zero, suc, ◌+◌, List, [], ◌∷◌, ◌++◌, length, refl, ap, sym, subst, inr, arith}
-use Rattle.std.specs.Prelude.{◌↔◌, Contains, Err, Ok, OnOk, Result}
+use Rattle.std.proofs.Common.{◌≡◌, ◌≤◌, ℕ, ◌+◌, List, [], ◌∷◌, ◌++◌, length, refl, ap, sym, subst, inr, arith}
+use Rattle.std.specs.Prelude.{◌↔◌, Err, Ok, OnOk, Result}
 use Rattle.std.specs.List.{AllByRecursion}
 use Rattle.std.proofs.lemmas.List.{append-nil}
 use Rattle.sql_base.specs.declared.faults.NoMemory.{NoMemory}
@@ -20,6 +20,7 @@ use Rattle.session_grammar.proofs.Readings.{follows-in_line}
 use Rattle.requester_fs.specs.Asking.{Asking, HasTaken, IsSame, next_at, places_of}
 use Rattle.requester_fs.specs.Asking.{working}
 use Rattle.session_grammar.proofs.LogLists.{none_filled}
+use Rattle.sql_base.proofs.ListFacts.{only-one}
 
 -- syncs count up
 pub behind_least : (n : ℕ) (log : List LogEntry) → n ≤ sync_behind n log
@@ -98,11 +99,6 @@ module _ (script : Script) (number : ℕ) (log : List LogEntry) where
       let whole = log ++ Drew name floor (Stamp 0) ∷ [] in
       (whole, more.0, (0, refl), follows-in_line (asker script number) (works_of script number) (whole ++ more.0) more.1)
 
--- the one that is open
-open_one : (s other : Sending) → Contains (s ∷ []) other → other ≡ s
-open_one s other (zero, lt, is) = sym is
-open_one s other (suc k, lt, is) = absurd (omega (arith, lt))
-
 -- what was answered stands at the end of the log
 pub has_taken : (a b : Asking) (answer : Answer) (losses : ℕ) → IsOne a.way → MayCome (next_at a.way 0) answer losses → b.log ≡ a.log ++ entries_kept (next_at a.way 0) answer losses
     → Asks a.script a.number b.log b.way → HasTaken a (next_at a.way 0) answer losses b
@@ -113,7 +109,7 @@ has_taken a b answer losses one may kept asks = by a.way refl one may kept
     by (Awaiting (s ∷ [])) is one may kept = (
       s ∷ [],
       is,
-      record { put_in = (a.log, [], sym (append-nil a.log), kept, refl); stay = λ other among differ. absurd (differ (ap (λ (x : Sending). x.part) (open_one s other among))); asks = asks },
+      record { put_in = (a.log, [], sym (append-nil a.log), kept, refl); stay = λ other among differ. absurd (differ (ap (λ (x : Sending). x.part) (only-one s other among))); asks = asks },
     )
     by (Awaiting (s ∷ t ∷ sends)) is one may kept = absurd one
     by (Drawing name floor) is one may kept = by_answer answer may kept

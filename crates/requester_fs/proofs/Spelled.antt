@@ -35,10 +35,9 @@ use Rattle.ranges_laws.proofs.Pieces.{cut-is_pieces}
 use Rattle.ranges_laws.proofs.Ranges.{ranges_are_bounds}
 use Rattle.update_expressions.proofs.Differing.{few}
 use Rattle.session_grammar.specs.Follows.{asker}
-use Rattle.session_grammar.specs.Plans.{Asker, all_columns, begin_pieces, begins_in, filter_code, first_part, plan_of, plan_on, select_plan}
+use Rattle.session_grammar.specs.Plans.{Asker, all_columns, begin_pieces, begins_in, filter_code, first_part, plan_of, plan_on, select_plan, sents_of}
 use Rattle.session_grammar.specs.declared.plans.Plan.TheVariants.{Singles, Subsets}
 use Rattle.session_grammar.specs.declared.plans.Sent.{Sent}
-use Rattle.session_laws.specs.Scaffold.Machine.{sents_of}
 use Rattle.requester_fs.proofs.Lists.{all_at}
 
 abbrev pub IsSpelledSent : Sent → Type 0

@@ -10,11 +10,11 @@ use Rattle.sql_base.specs.declared.scripts.Work.{Work}
 use Rattle.sql_base.specs.declared.statements.Statement.{Statement}
 use Rattle.dp_messages.specs.Spelling.{IsAsk}
 use Rattle.session_grammar.specs.Follows.{asker}
-use Rattle.session_grammar.specs.Plans.{Asker, plan_of}
+use Rattle.session_grammar.specs.Plans.{Asker, plan_of, sents_of}
 use Rattle.session_grammar.specs.declared.plans.Plan.{Plan}
 use Rattle.session_grammar.specs.declared.plans.Plan.TheVariants.{Subsets}
 use Rattle.session_grammar.specs.declared.plans.Sent.{Sent}
-use Rattle.session_laws.specs.Scaffold.Machine.{Asks, At, Place, Trying, are_subsets, retried, sents_at, sents_of, statements_at, trying, works_at}
+use Rattle.session_laws.specs.Scaffold.Machine.{Asks, At, Place, Trying, are_subsets, retried, sents_at, statements_at, trying, works_at}
 use Rattle.requester_fs.specs.Scaffold.Stages.{AreSuited, IsStage, Stands, doing_of, plan_at, statements_of, trying_of, work_of}
 use Rattle.requester_fs.specs.declared.stages.Stage.{Stage}
 use Rattle.requester_fs.specs.declared.stages.Stand.{Stand}

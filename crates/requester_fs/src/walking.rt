@@ -4,7 +4,8 @@ ghost use Rattle.sql_base.specs.declared.statements.Statement.{Statement as AnyS
 ghost use Rattle.dp_messages.specs.Spelling.{IsAsk};
 ghost use Rattle.session_grammar.specs.Follows.{asker};
 ghost use Rattle.session_grammar.specs.declared.plans.Sent.{Sent as AnySent};
-ghost use Rattle.session_laws.specs.Scaffold.Machine.{Place, Trying, are_subsets, behind, closing, sents_of, statements_at, undone, works_at};
+ghost use Rattle.session_laws.specs.Scaffold.Machine.{Place, Trying, are_subsets, behind, closing, statements_at, undone, works_at};
+ghost use Rattle.session_grammar.specs.Plans.{sents_of};
 ghost use Rattle.requester_fs.specs.declared.stages.Stage.TheVariants as stage;
 ghost use Rattle.requester_fs.specs.Scaffold.Stages.{AreSuited, AreWorks, IsPlanner, MayBeStage, Stands, out_of, placed, plan_at};
 

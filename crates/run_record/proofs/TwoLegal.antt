@@ -1,5 +1,5 @@
 -- The record of two sessions is one of a run of its script.
-use Rattle.std.proofs.Common.{◌≡◌, ◌<◌, ◌≤◌, ℕ, zero, suc, List, [], ◌∷◌, Some, None, Bool, true, false, cond, refl, ap, subst, inl, inr, lit≤, arith, sym}
+use Rattle.std.proofs.Common.{◌≡◌, ◌<◌, ◌≤◌, ℕ, zero, suc, List, [], ◌∷◌, Some, None, Bool, true, false, cond, refl, ap, subst, inl, inr, lit≤, arith}
 use Rattle.std.specs.Prelude.{◌⊎◌, ◌==◌, ◌&&◌, Contains, filter, slice_get, unwrap_or}
 use Rattle.std.proofs.lemmas.Bool.{eqb-true, and_parts}
 use Rattle.sql_base.specs.Scripts.{IsScript, Lies}
@@ -22,11 +22,7 @@ use Rattle.run_record.proofs.TwoReadings.{reader_read, writer_read}
 use Rattle.run_record.proofs.TwoSessions.{all_four, asked, both, first_draw, inserting, kept, reader, reading, row, scan, script, second_draw, table, writer}
 use Rattle.run_record.proofs.WorkedRows.{history_replays}
 use Rattle.run_record.proofs.DrawnLogs.{of_logs}
-
--- what is in a list of one is that one
-in_one : {X : Type 0} (x y : X) → Contains (x ∷ []) y → y ≡ x
-in_one x y (zero, lt, is) = sym is
-in_one x y (suc k, lt, is) = absurd (omega (arith, lt))
+use Rattle.sql_base.proofs.ListFacts.{only-one}
 
 -- the table may be declared
 is_table : IsTable table
@@ -213,10 +209,10 @@ abbrev CommittedWith : Attempt → List Attempt → ℕ → Drawn → Type 0
 CommittedWith a attempts session d = Reads IsPart (asker script session) (works_of script session) (log_of kept session) attempts → Contains attempts a → a.outcome ≡ Committed d.stamp
 
 reader_committed : (attempts : List Attempt) (a : Attempt) → CommittedWith a attempts 1 second_draw
-reader_committed attempts a reads has = ap (λ (x : Attempt). x.outcome) (in_one reader a (subst (λ list. Contains list a) (reader_read attempts reads) has))
+reader_committed attempts a reads has = ap (λ (x : Attempt). x.outcome) (only-one reader a (subst (λ list. Contains list a) (reader_read attempts reads) has))
 
 writer_committed : (attempts : List Attempt) (a : Attempt) → CommittedWith a attempts 2 first_draw
-writer_committed attempts a reads has = ap (λ (x : Attempt). x.outcome) (in_one writer a (subst (λ list. Contains list a) (writer_read attempts reads) has))
+writer_committed attempts a reads has = ap (λ (x : Attempt). x.outcome) (only-one writer a (subst (λ list. Contains list a) (writer_read attempts reads) has))
 
 either_committed : (session : ℕ) (attempts : List Attempt) (a : Attempt) (d : Drawn)
     → ((((2 == session) && (1 == a.ordinal)) ≡ true) × (first_draw ≡ d)) ⊎ ((((1 == session) && (1 == a.ordinal)) ≡ true) × (second_draw ≡ d)) → CommittedWith a attempts session d

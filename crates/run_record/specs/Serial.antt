@@ -8,11 +8,11 @@ use Rattle.sql_base.specs.Scripts.{Lies}
 use Rattle.key_sequenced.specs.Cells.{records}
 use Rattle.partition_state.specs.History.{replay}
 use Rattle.one_thread.specs.One.{Commits, Ran, loaded, one_run, run_work, world_after}
-use Rattle.session_grammar.specs.Plans.{Asker, plan_of}
+use Rattle.session_grammar.specs.Plans.{Asker, plan_of, sents_of}
 use Rattle.session_grammar.specs.Follows.{Attempt, Reads, IsPart, projection, asker, works_of}
 use Rattle.run_record.specs.Openings.{openings, log_of, by_part}
 use Rattle.run_record.specs.Legal.{in_journal, ForAttempt}
-use Rattle.run_record.specs.Tiles.{reply_rows, reply_changed, sents_of}
+use Rattle.run_record.specs.Tiles.{reply_rows, reply_changed}
 use Rattle.run_record.specs.Base.{base, base_of, by_table, changes}
 use Rattle.key_sequenced.specs.Changes.{laid}
 use Rattle.sql_base.specs.declared.lock_names.Access.{Access}

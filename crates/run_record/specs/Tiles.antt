@@ -11,9 +11,8 @@ use Rattle.key_sequenced.specs.Cells.{Keyed, records}
 use Rattle.sql_base.specs.Keys.{is_from}
 use Rattle.partition_state.specs.History.{before}
 use Rattle.one_thread.specs.One.{meets, row_after, statement_fault}
-use Rattle.session_grammar.specs.Plans.{plan_of}
+use Rattle.session_grammar.specs.Plans.{plan_of, sents_of}
 use Rattle.session_grammar.specs.declared.plans.Plan.{Plan}
-use Rattle.session_grammar.specs.declared.plans.Plan.TheVariants.{Singles, Subsets}
 use Rattle.session_grammar.specs.declared.plans.Sent.{Sent}
 use Rattle.session_grammar.specs.Follows.{Attempt, Reads, IsPart, AreTheirs, projection, asker, works_of}
 use Rattle.run_record.specs.Openings.{openings, history_of, log_of}
@@ -145,10 +144,6 @@ pub record PieceTiles (script : Script) (kept : RunRecord) (session : ℕ) (tabl
 abbrev pub SentTiles : Script → RunRecord → ℕ → TableDef → Statement → List LogEntry → Sent → Type 0
 SentTiles script kept session table statement part sent =
     (range : KeyRange) × (range_of sent.ask ≡ Some range) × PieceTiles script kept session table statement range (projection part sent)
-
-abbrev pub sents_of : Plan → List Sent
-sents_of (Subsets sents) = sents
-sents_of (Singles sents) = sents
 
 -- the entry was answered Done
 abbrev pub is_answered_done : LogEntry → Bool

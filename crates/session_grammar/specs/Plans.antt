@@ -70,3 +70,8 @@ plan_on r table (LockTable place mode) =
 -- what a statement asks, in rising partitions
 abbrev pub plan_of : Asker → Statement → Plan
 plan_of r statement = unwrap_or (option_map (λ table. plan_on r table statement) (slice_get r.tables (table_of statement))) (Subsets [])
+
+-- what a plan sends, whether one after the other or not
+abbrev pub sents_of : Plan → List Sent
+sents_of (Subsets sents) = sents
+sents_of (Singles sents) = sents

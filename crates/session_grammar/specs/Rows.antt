@@ -12,6 +12,7 @@ use Rattle.session_grammar.specs.declared.logs.Answer.{Answer}
 use Rattle.session_grammar.specs.declared.logs.Answer.TheVariants.{Reply, PathFailed, Stamp}
 use Rattle.session_grammar.specs.declared.logs.LogEntry.{LogEntry}
 use Rattle.session_grammar.specs.declared.logs.LogEntry.TheVariants.{Asked, Drew}
+use Rattle.dp_messages.specs.Replies.{is_done}
 
 -- the replies that may come to a subset's request, a ReadKey, an Insert and a LockGranule
 abbrev pub fits_subset : PartitionReply → Bool
@@ -43,10 +44,6 @@ fits_lock other = false
 abbrev pub is_floor : PartitionReply → Bool
 is_floor (reply.Floor floor) = true
 is_floor other = false
-
-abbrev pub is_done : PartitionReply → Bool
-is_done reply.Done = true
-is_done other = false
 
 -- the reply is one that may come to what was asked
 abbrev pub fits : Ask → PartitionReply → Bool

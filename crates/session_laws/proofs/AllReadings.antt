@@ -8,11 +8,11 @@ use Rattle.sql_base.specs.declared.scripts.Work.{Work}
 use Rattle.sql_base.specs.declared.statements.Statement.{Statement}
 use Rattle.session_grammar.specs.declared.logs.LogEntry.{LogEntry}
 use Rattle.session_grammar.specs.Follows.{Attempt, Follows, InLineBy, IsPart, Reads, WideBy}
-use Rattle.session_grammar.specs.Plans.{Asker, plan_of}
+use Rattle.session_grammar.specs.Plans.{Asker, plan_of, sents_of}
 use Rattle.session_grammar.specs.declared.plans.Plan.{Plan}
 use Rattle.session_grammar.specs.declared.plans.Plan.TheVariants.{Singles, Subsets}
 use Rattle.session_grammar.specs.declared.plans.Sent.{Sent}
-use Rattle.session_laws.specs.Scaffold.Machine.{are_subsets, sents_of}
+use Rattle.session_laws.specs.Scaffold.Machine.{are_subsets}
 use Rattle.session_laws.proofs.Loose.{IsLoose, in_line_loose, wide_loose}
 use Rattle.session_laws.proofs.LooseSame.{Then, loose_same}
 use Rattle.session_laws.proofs.Plans.{Suits, plans_suit}

@@ -12,10 +12,10 @@ use Rattle.session_grammar.specs.declared.logs.Answer.TheVariants.{Reply, PathFa
 use Rattle.session_grammar.specs.declared.logs.LogEntry.{LogEntry}
 use Rattle.session_grammar.specs.declared.logs.LogEntry.TheVariants.{Asked, Drew}
 use Rattle.session_grammar.specs.Follows.{CountSyncs}
-use Rattle.session_grammar.specs.Plans.{Asker, plan_of}
+use Rattle.session_grammar.specs.Plans.{Asker, plan_of, sents_of}
 use Rattle.session_grammar.specs.declared.plans.Sent.{Sent}
 use Rattle.session_grammar.specs.Rows.{IsSent}
-use Rattle.session_laws.specs.Scaffold.Machine.{Asks, At, Closes, Draw, Over, Place, Prepares, Send, Stamps, Trying, after, are_subsets, asking, behind, closes_at, closing, in_order, next, prepares_at, see, sents_of, statements_at, task_at, trying, went_on, works_at}
+use Rattle.session_laws.specs.Scaffold.Machine.{Asks, At, Closes, Draw, Over, Place, Prepares, Send, Stamps, Trying, after, are_subsets, asking, behind, closes_at, closing, in_order, next, prepares_at, see, statements_at, task_at, trying, went_on, works_at}
 use Rattle.session_laws.specs.Scaffold.Leading.{Does, Leads}
 
 module _ (r : Asker) where

@@ -16,12 +16,13 @@ use Rattle.session_grammar.specs.declared.logs.LogEntry.{LogEntry}
 use Rattle.session_grammar.specs.declared.logs.LogEntry.TheVariants.{Asked, Drew}
 use Rattle.session_grammar.specs.Follows.{AreEnds, ArePrepares, Attempt, IsEnding, greatest_of, touched}
 use Rattle.session_grammar.specs.Plans.{Asker}
-use Rattle.session_grammar.specs.Rows.{IsAsked, IsSent, fits, is_done, is_end}
+use Rattle.session_grammar.specs.Rows.{IsAsked, IsSent, fits, is_end}
 use Rattle.session_laws.specs.Scaffold.Machine.{At, Over, Place, Stamps, Trying, after_prepare, asking, behind, closes_at, closing, in_order, next, prepares_at, undone}
 use Rattle.session_laws.specs.Scaffold.Leading.{Leads, answer_of}
 use Rattle.session_laws.proofs.Asking.{is_lock}
 use Rattle.session_laws.proofs.Attempts.{is_lock_end}
 use Rattle.session_laws.proofs.Leading.{does_asked}
+use Rattle.dp_messages.specs.Replies.{is_done}
 
 done_reply : (x : PartitionReply) → is_done x ≡ true → x ≡ reply.Done
 done_reply reply.Done h = refl

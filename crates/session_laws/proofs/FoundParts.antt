@@ -5,9 +5,9 @@ use Rattle.sql_base.specs.declared.outcomes.Abort.{Abort}
 use Rattle.sql_base.specs.declared.statements.Statement.{Statement}
 use Rattle.session_grammar.specs.declared.logs.LogEntry.{LogEntry}
 use Rattle.session_grammar.specs.Follows.{IsInLine}
-use Rattle.session_grammar.specs.Plans.{Asker, plan_of}
+use Rattle.session_grammar.specs.Plans.{Asker, plan_of, sents_of}
 use Rattle.session_grammar.specs.declared.plans.Sent.{Sent}
-use Rattle.session_laws.specs.Scaffold.Machine.{Over, Place, Trying, are_subsets, next, sents_of, statements_at, went_on}
+use Rattle.session_laws.specs.Scaffold.Machine.{Over, Place, Trying, are_subsets, next, statements_at, went_on}
 use Rattle.session_laws.specs.Scaffold.Leading.{Leads}
 use Rattle.session_laws.proofs.Asking.{ListBy, list_out}
 use Rattle.session_laws.proofs.Found.{Cut, Turns, turning, turns_found}

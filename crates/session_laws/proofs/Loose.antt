@@ -2,7 +2,7 @@
 use Rattle.std.proofs.Common.{◌≡◌, ◌≤◌, ◌<◌, ◌≢◌, ℕ, zero, suc, ◌+◌, List, [], ◌∷◌, ◌++◌, map, cond, Option, None, true, false, refl, ap, sym, ◌∙◌, subst, inl, inr, arith}
 use Rattle.std.specs.Prelude.{◌⊎◌, ◌==◌, IsSome, filter}
 use Rattle.std.specs.List.{AllByRecursion, list_any}
-use Rattle.std.proofs.lemmas.Bool.{eq-eqb, eqb-true, false_from_ne_true, or_left, or_right}
+use Rattle.std.proofs.lemmas.Bool.{eq-eqb, eqb-true, false_from_ne_true, or_left}
 use Rattle.std.proofs.lemmas.List.{append-nil}
 use Rattle.std.proofs.lemmas.List.Elements.{filter-append}
 use Rattle.sql_base.specs.declared.outcomes.Abort.{Abort}
@@ -21,6 +21,7 @@ use Rattle.session_grammar.specs.Rows.{IsAsked, IsExchange, is_end, is_for}
 use Rattle.session_laws.proofs.Plans.{Suits}
 use Rattle.session_laws.proofs.Within.{Rise}
 use Rattle.sql_base.proofs.ListFacts.{all_joined}
+use Rattle.session_grammar.proofs.LogLists.{theirs_more}
 
 -- the entry was asked of this partition, and is no End
 abbrev pub IsWork : ℕ → LogEntry → Type 0
@@ -51,7 +52,7 @@ module _ (r : Asker) (ordinal : ℕ) where
   none_work : (part : ℕ) (rows : List (List LogEntry)) → rows ≡ [] → AllByRecursion (IsWork part) (joined rows)
   none_work part rows is = subst (λ (x : List (List LogEntry)). AllByRecursion (IsWork part) (joined x)) (sym is) tt
 
-  after_work : (part : ℕ) (answer : Answer) (rows : List (List LogEntry)) (end : Option Abort) → AfterRow answer (λ subset last. AreExchanges r ordinal part (Continue subset last) rows end) rows end
+  pub after_work : (part : ℕ) (answer : Answer) (rows : List (List LogEntry)) (end : Option Abort) → AfterRow answer (λ subset last. AreExchanges r ordinal part (Continue subset last) rows end) rows end
       → ((subset : ℕ) (last : List ℕ) → AreExchanges r ordinal part (Continue subset last) rows end → AllByRecursion (IsWork part) (joined rows)) → AllByRecursion (IsWork part) (joined rows)
   after_work part (Reply (reply.Redrive subset last cause out changed)) rows end h more = more subset last h
   after_work part (Reply (reply.Ended out changed)) rows end h more = none_work part rows h.0
@@ -169,10 +170,6 @@ module _ (r : Asker) (ordinal : ℕ) where
   no_fronts : (sents : List Sent) → AreFronts sents []
   no_fronts [] = tt
   no_fronts (sent ∷ sents) = (inl refl, no_fronts sents)
-
-  theirs_more : (sent : Sent) (sents : List Sent) (entries : List LogEntry) → AreTheirs sents entries → AreTheirs (sent ∷ sents) entries
-  theirs_more sent sents [] h = tt
-  theirs_more sent sents (e ∷ es) h = (or_right (is_for sent.part e) (list_any (λ x. is_for x.part e) sents) h.0, theirs_more sent sents es h.1)
 
   work_theirs : (sent : Sent) (sents : List Sent) (entries : List LogEntry) → AllByRecursion (IsWork sent.part) entries → AreTheirs (sent ∷ sents) entries
   work_theirs sent sents [] h = tt

@@ -10,9 +10,9 @@ use Rattle.dp_messages.specs.declared.requests.Ask.TheVariants.{EndCommit, EndUn
 use Rattle.session_grammar.specs.declared.logs.Answer.{Answer}
 use Rattle.session_grammar.specs.declared.logs.Answer.TheVariants.{Reply, PathFailed, Stamp}
 use Rattle.session_grammar.specs.declared.logs.LogEntry.{LogEntry}
-use Rattle.session_grammar.specs.Plans.{Asker, plan_of}
+use Rattle.session_grammar.specs.Plans.{Asker, plan_of, sents_of}
 use Rattle.session_grammar.specs.declared.plans.Sent.{Sent}
-use Rattle.session_laws.specs.Scaffold.Machine.{Asks, At, Closes, Doing, Over, Place, Prepares, Stamps, Trying, after, after_reply, are_subsets, behind, closes_at, closing, in_order, next, prepares_at, see, sents_at, sents_of, statements_at, trying, undone, went_on, works_at}
+use Rattle.session_laws.specs.Scaffold.Machine.{Asks, At, Closes, Doing, Over, Place, Prepares, Stamps, Trying, after, after_reply, are_subsets, behind, closes_at, closing, in_order, next, prepares_at, see, sents_at, statements_at, trying, undone, went_on, works_at}
 use Rattle.session_laws.specs.Scaffold.Leading.{Leads, StandsAt, answer_of}
 use Rattle.session_laws.specs.Scaffold.Left.{times}
 

@@ -6,11 +6,11 @@ use Rattle.sql_base.specs.declared.outcomes.Abort.{Abort}
 use Rattle.sql_base.specs.declared.statements.Statement.{Statement}
 use Rattle.session_grammar.specs.declared.logs.LogEntry.{LogEntry}
 use Rattle.session_grammar.specs.Follows.{InLineBy, InTurn, IsInLine, joined}
-use Rattle.session_grammar.specs.Plans.{Asker, plan_of}
+use Rattle.session_grammar.specs.Plans.{Asker, plan_of, sents_of}
 use Rattle.session_grammar.specs.declared.plans.Plan.{Plan}
 use Rattle.session_grammar.specs.declared.plans.Plan.TheVariants.{Singles, Subsets}
 use Rattle.session_grammar.specs.declared.plans.Sent.{Sent}
-use Rattle.session_laws.specs.Scaffold.Machine.{Place, Trying, are_subsets, next, sents_of, statements_at, undone, went_on}
+use Rattle.session_laws.specs.Scaffold.Machine.{Place, Trying, are_subsets, next, statements_at, undone, went_on}
 use Rattle.session_laws.specs.Scaffold.Leading.{Leads}
 use Rattle.session_laws.proofs.Asking.{ListBy, is_lock, list_leads, list_out}
 use Rattle.session_laws.proofs.Leading.{Leads-append, walk, walk-append}

@@ -16,12 +16,12 @@ use Rattle.dp_messages.specs.declared.requests.Ask.{Ask}
 use Rattle.partition_map.specs.Map.{cut, part_of}
 use Rattle.range_finder.specs.Range.{range}
 use Rattle.dp_messages.specs.declared.requests.Ask.TheVariants.{BeginRead, BeginUpdate, BeginDelete, ReadKey}
-use Rattle.session_grammar.specs.Plans.{Asker, begin_pieces, begins_in, filter_code, first_part, plan_of, plan_on, select_plan}
+use Rattle.session_grammar.specs.Plans.{Asker, begin_pieces, begins_in, filter_code, first_part, plan_of, plan_on, select_plan, sents_of}
 use Rattle.session_grammar.specs.declared.plans.Plan.{Plan}
 use Rattle.session_grammar.specs.declared.plans.Plan.TheVariants.{Singles, Subsets}
 use Rattle.session_grammar.specs.declared.plans.Sent.{Sent}
 use Rattle.session_grammar.specs.Rows.{fits, fits_subset}
-use Rattle.session_laws.specs.Scaffold.Machine.{are_subsets, sents_of}
+use Rattle.session_laws.specs.Scaffold.Machine.{are_subsets}
 use Rattle.sql_base.proofs.ListFacts.{all-images}
 
 -- the replies that may come are those of a subset, where it is one

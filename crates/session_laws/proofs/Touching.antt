@@ -16,12 +16,11 @@ use Rattle.session_grammar.specs.declared.logs.Answer.TheVariants.{Reply}
 use Rattle.session_grammar.specs.declared.logs.LogEntry.{LogEntry}
 use Rattle.session_grammar.specs.declared.logs.LogEntry.TheVariants.{Asked, Drew}
 use Rattle.session_grammar.specs.Follows.{AreEnds, AreExchanges, Attempt, InLineBy, InTurn, IsAttempt, IsEnding, IsList, IsPart, IsSingle, Together, WideBy, joined, projection, touched}
-use Rattle.session_grammar.specs.Plans.{Asker, plan_of}
+use Rattle.session_grammar.specs.Plans.{Asker, plan_of, sents_of}
 use Rattle.session_grammar.specs.declared.plans.Plan.{Plan}
 use Rattle.session_grammar.specs.declared.plans.Plan.TheVariants.{Singles, Subsets}
 use Rattle.session_grammar.specs.declared.plans.Sent.{Sent}
 use Rattle.session_grammar.specs.Rows.{IsExchange, is_end, is_for}
-use Rattle.session_laws.specs.Scaffold.Machine.{sents_of}
 use Rattle.session_laws.proofs.LooseSame.{EndsNext, Then}
 use Rattle.session_laws.proofs.Within.{Rise, plans_rise}
 use Rattle.session_grammar.proofs.LogLists.{asked_for}

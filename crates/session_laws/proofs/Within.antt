@@ -18,10 +18,9 @@ use Rattle.dp_messages.specs.declared.requests.Ask.TheVariants as ask
 use Rattle.partition_map.specs.declared.Piece.{Piece}
 use Rattle.partition_map.specs.Map.{high_of, low_of, part_of, piece_of}
 use Rattle.range_finder.specs.Range.{range}
-use Rattle.session_grammar.specs.Plans.{Asker, all_columns, begin_pieces, begins_in, filter_code, first_part, plan_of, plan_on, select_plan}
+use Rattle.session_grammar.specs.Plans.{Asker, all_columns, begin_pieces, begins_in, filter_code, first_part, plan_of, plan_on, select_plan, sents_of}
 use Rattle.session_grammar.specs.declared.plans.Plan.TheVariants.{Singles, Subsets}
 use Rattle.session_grammar.specs.declared.plans.Sent.{Sent}
-use Rattle.session_laws.specs.Scaffold.Machine.{sents_of}
 use Rattle.sql_base.proofs.RowFacts.{parts_within}
 use Rattle.partition_map.proofs.PartsOfTables.{part_within}
 

@@ -3,6 +3,7 @@ pub mod KeyColumns
 pub mod KeyOrder
 pub mod KeyOrders
 pub mod Trees
+pub mod Layers
 pub mod UnpackedLength
 mod WorkedRows
 pub mod CommonPrefixes

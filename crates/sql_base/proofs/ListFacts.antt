@@ -1,9 +1,10 @@
 -- Facts of lists that several crates need.
-use Rattle.std.proofs.Common.{◌&&◌, ◌++◌, ◌+◌, ◌-◌, ◌<◌, ◌∙◌, ◌∷◌, ◌≡◌, ◌≤◌, ◌||◌, ◌⊎◌, Bool, List, None, Option, Some, [], ap, arith, cond, drop, false, filter, inl, inr, length, map, refl, subst, suc, sym, take, true, zero, ℕ}
+use Rattle.std.proofs.Common.{Bool, List, None, Option, Some, [], ap, arith, cond, drop, false, filter, get_or, inl, inr, length, map, refl, subst, suc, sym, take, true, zero, ℕ, ◌&&◌, ◌++◌, ◌+◌, ◌-◌, ◌<◌, ◌||◌, ◌∙◌, ◌∷◌, ◌≡◌, ◌≤◌, ◌⊎◌}
 use Rattle.std.proofs.lemmas.Bool.{eq-eqb, false≢true}
 use Rattle.std.proofs.lemmas.List.Elements.{All-contains, All-from_recursion}
 use Rattle.std.specs.List.{AllByRecursion, AllZip, cons_option, list_any, range_with_len, starts_with}
 use Rattle.std.specs.Prelude.{Contains, filter, find, nat_eq, option_to_list, slice_get, slice_set, unwrap_or}
+use Rattle.std.proofs.lemmas.List.{drop_more}
 
 pub zip_length : {A B : Type 0} (R : A → B → Type 0) (xs : List A) (ys : List B) → AllZip R xs ys → length xs ≡ length ys
 zip_length R [] [] h = refl
@@ -260,3 +261,12 @@ range-push a (suc n) =
     let long : suc n + 1 ≡ suc (n + 1) = omega arith in
     let last : (a + 1) + n ≡ a + suc n = omega arith in
     ap (range_with_len a) long ∙ ap (λ ms. a ∷ ms) (range-push (a + 1) n ∙ ap (λ m. range_with_len (a + 1) n ++ m ∷ []) last)
+
+-- what is left of a list from a place on begins with the element there
+pub drop-within : {X : Type 0} (xs : List X) (i : ℕ) (x : X) → i < length xs → x ≡ get_or xs i x → drop i xs ≡ x ∷ drop (i + 1) xs
+drop-within xs i x within is = drop_more xs i x within ∙ ap (λ y. y ∷ drop (i + 1) xs) (sym is)
+
+-- a list of one element has no other
+pub only-one : {X : Type 0} (x y : X) → Contains (x ∷ []) y → y ≡ x
+only-one x y (zero, lt, is) = sym is
+only-one x y (suc k, lt, is) = absurd (omega (arith, lt))

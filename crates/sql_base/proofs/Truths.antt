@@ -3,7 +3,7 @@ use Rattle.std.proofs.Common.{◌&&◌, ◌*◌, ◌+◌, ◌-◌, ◌<◌, ◌|
 use Rattle.std.proofs.Math.Nat.{mul-le-mul_right}
 use Rattle.std.proofs.lemmas.Bool.{false≢true}
 use Rattle.std.proofs.lemmas.Bool.Decides.{nat_tests}
-use Rattle.std.specs.Prelude.{is_some, nat_le, nat_lt}
+use Rattle.std.specs.Prelude.{Err, Ok, OnErr, Result, if◌then◌else◌, is_some, nat_le, nat_lt}
 
 pub some-same : {A : Type 0} (x y : A) → Some x ≡ Some y → x ≡ y
 some-same x y e = cc
@@ -125,3 +125,13 @@ lt-not_le a b h = grind (arith, nat_tests)
 pub none-is : {A : Type 0} (o : Option A) → is_some o ≡ false → o ≡ None
 none-is None h = refl
 none-is (Some x) h = absurd (false≢true (sym h))
+
+-- what holds anyhow holds on a refusal
+pub on_err : {T E P : Type 0} (result : Result T E) → P → OnErr result P
+on_err (Ok value) h = tt
+on_err (Err error) h = h
+
+-- something came of it, so the test held
+pub some_if : {A : Type 0} (b : Bool) (x y : A) → (if b then Some x else None) ≡ Some y → b ≡ true
+some_if true x y e = refl
+some_if false x y e = absurd (cc)

@@ -46,8 +46,8 @@ check_fault number (Ok (IsNumber n)) = Some (fault.CheckFailed number)
 check_fault number (Ok (IsText text)) = Some (fault.CheckFailed number)
 check_fault number (Ok IsNothing) = Some (fault.CheckFailed number)
 
-abbrev pub or_later : Option Fault → Option Fault → Option Fault
-or_later (Some fault) later = Some fault
+abbrev pub or_later : {X : Type 0} → Option X → Option X → Option X
+or_later (Some first) later = Some first
 or_later None later = later
 
 -- the fault of the first CHECK that fails; CHECKs count from 1

@@ -23,7 +23,7 @@ use Rattle.statement_draft.specs.declared.kinds.Kind.TheVariants as kind
 use Rattle.statement_draft.specs.declared.kinds.Operand.{Operand}
 use Rattle.statement_draft.specs.declared.kinds.Op.{Op}
 use Rattle.statement_draft.specs.declared.kinds.Op.TheVariants as op
-use Rattle.sql_base.proofs.Truths.{max-itself, some-same}
+use Rattle.sql_base.proofs.Truths.{max-itself, some-same, some_if}
 
 -- depth counted up to 33 on both sides
 deep : (a b m n : ℕ) → a ≡ min 33 m → b ≡ min 33 n → min 32 (max a b) + 1 ≡ min 33 (max m n + 1)
@@ -153,14 +153,9 @@ of_number table x z fits hk hd hc = record {
   code = hc ∙ ap (λ bytes. min 8193 (length bytes)) (sym (fold-Number _ code_step z));
 }
 
--- what a test let through passes it
-passed : (b : Bool) (t e : Expr) → (if b then Some t else None) ≡ Some e → b ≡ true
-passed true t e h = refl
-passed false t e h = absurd (cc)
-
 pub number_describes : (table : TableDef) (n : ℕ) → DescribesItsTree table (number_operand n)
 number_describes table n e h =
-    let fits = passed (nat_lt n (2 ^ 63)) (expr.Number (pos n)) e h in
+    let fits = some_if (nat_lt n (2 ^ 63)) (expr.Number (pos n)) e h in
     subst (Describes table (number_operand n)) (picked (nat_lt n (2 ^ 63)) (expr.Number (pos n)) e h) (of_number table (number_operand n) (pos n) fits refl refl refl)
 
 negated : (m : ℕ) → m ≤ 2 ^ 63 → in_i64 (neg_ℤ (pos m)) ≡ true

@@ -1,9 +1,8 @@
 -- What a collector keeps while entries are shown to it, and what a list of them keeps.
-use Rattle.std.proofs.Common.{◌≡◌, ℕ, zero, suc, ◌+◌, ◌<◌, List, [], ◌∷◌, ◌++◌, length, map, take, drop, get_or, refl, ap, sym, ◌∙◌, subst, arith, append_assoc, append-nil, Some, Ok, Err, Result}
-use Rattle.std.specs.Prelude.{OnErr, slice_get, slice_set}
+use Rattle.std.proofs.Common.{◌≡◌, ℕ, zero, suc, ◌+◌, ◌<◌, List, [], ◌∷◌, ◌++◌, length, map, take, drop, get_or, refl, ap, sym, ◌∙◌, subst, arith, append_assoc, append-nil, Some}
+use Rattle.std.specs.Prelude.{slice_get, slice_set}
 use Rattle.std.specs.List.{AllZip}
-use Rattle.std.proofs.lemmas.List.{drop_more}
-use Rattle.sql_base.proofs.ListFacts.{map_set}
+use Rattle.sql_base.proofs.ListFacts.{drop-within, map_set}
 use Rattle.outside.specs.Collecting.{Collecting, behind}
 use Rattle.outside.specs.declared.collector.Seen.{Seen}
 use Rattle.trace_report.specs.Reports.{SawFront, behind_all}
@@ -48,24 +47,20 @@ group_cut entries group rest before between after h part =
     let more = seen_group entries front (left ++ rest) before between after (subst (λ xs. HasSeen entries xs before between) (sym joined) h) part.3 in
     seen_cut entries (left ++ rest) before after more
 
--- what is left of a list begins with its item at that place
-rest_at : {X : Type 0} (xs : List X) (i : ℕ) (x : X) → i < length xs → x ≡ get_or xs i x → drop i xs ≡ x ∷ drop (i + 1) xs
-rest_at xs i x within is = drop_more xs i x within ∙ ap (λ y. y ∷ drop (i + 1) xs) (sym is)
-
 -- it saw the entry at a place
 pub entry_more : (part : ℕ) (history : List Entry) (entries : List Seen) (before between after : Collecting) (n place : ℕ) (e : Entry) (s : Seen) → n < length history → e ≡ get_or history n e → place ≡ n
     → s ≡ seen_entry part place e → HasSeen entries (seen_from part n (drop n history)) before between → after ≡ behind s between → HasSeen entries (seen_from part (n + 1) (drop (n + 1) history)) before after
 entry_more part history entries before between after n place e s within is at shows h more =
     let rest = seen_from part (n + 1) (drop (n + 1) history) in
     let here : s ≡ seen_entry part n e = shows ∙ ap (λ k. seen_entry part k e) at in
-    let left = subst (λ es. HasSeen entries (seen_from part n es) before between) (rest_at history n e within is) h in
+    let left = subst (λ es. HasSeen entries (seen_from part n es) before between) (drop-within history n e within is) h in
     seen_group entries (seen_entry part n e ∷ []) rest before between after left (more ∙ ap (λ x. behind x between) here)
 
 module _ (histories : List (List Entry)) (entries : List Seen) (before between after : Collecting) (n part : ℕ) (history : List Entry) (given : List Entry) (within : n < length histories)
     (is : history ≡ get_or histories n history) (at : part ≡ n) (same : given ≡ history) (h : HasSeen entries (seen_parts n (drop n histories)) before between) where
   left : HasSeen entries (seen_from part 0 history ++ seen_parts (n + 1) (drop (n + 1) histories)) before between
   left =
-      let here = subst (λ hs. HasSeen entries (seen_parts n hs) before between) (rest_at histories n history within is) h in
+      let here = subst (λ hs. HasSeen entries (seen_parts n hs) before between) (drop-within histories n history within is) h in
       subst (λ k. HasSeen entries (seen_from k 0 history ++ seen_parts (n + 1) (drop (n + 1) histories)) before between) (sym at) here
 
   -- it saw the history at a place
@@ -75,10 +70,6 @@ module _ (histories : List (List Entry)) (entries : List Seen) (before between a
   -- it saw a front of that history
   pub history_cut : SawFront (seen_from part 0 given) between after → SawFront entries before after
   history_cut part_of = group_cut entries (seen_from part 0 history) (seen_parts (n + 1) (drop (n + 1) histories)) before between after left (subst (λ es. SawFront (seen_from part 0 es) between after) same part_of)
-
-pub on_err : {T E P : Type 0} (result : Result T E) → P → OnErr result P
-on_err (Ok value) h = tt
-on_err (Err error) h = h
 
 -- ---- lists
 

@@ -1,12 +1,13 @@
 //! What a partition replies to requests that it serves one after the other, and what is left of it.
 use crate::asking::{Deed, read_keys};
-use crate::partition_cases::{CASES, LOAD, READ, TABLE};
+use crate::partition_cases::{CASES, Case, LOAD, READ, TABLE};
 use crate::replying::Wanted;
 use crate::serving::{expect_replies, found, has_kept, partition_of, replies, served};
 use dp_messages::{Ask, Request};
 use partition_core::{Partition, Pick, Served};
 use sql_base::{Cause, Row, Value};
 use std::alloc::Global;
+use std::process::Abort;
 use std::test::Fail;
 
 /// Whether the rows are just those of these numbers.
@@ -18,17 +19,38 @@ fn are_rows(rows: &[Row], wanted: &[(i64, i64)]) -> bool {
     same
 }
 
+/// Whether the rows of a partition are just those of these numbers.
+fn has_rows(alloc: Global, partition: &Partition, wanted: &[(i64, i64)]) -> Result<bool, Fail> {
+    let rows = partition.rows(alloc)?;
+    Ok(are_rows(rows.items(), wanted))
+}
+
+/// How many locks a partition has, how many subsets under way, and how many entries.
+fn counts(alloc: Global, partition: &Partition) -> Result<[usize; 3], Fail> {
+    let locks = partition.locks(alloc)?;
+    Ok([
+        locks.items().len(),
+        partition.blocks(),
+        partition.history().len(),
+    ])
+}
+
+/// Serves the requests of a case, and compares the replies and what is left of the partition.
+fn expect_case(rt: &impl Abort, alloc: Global, case: &Case) -> Result<(), Fail> {
+    let mut partition = partition_of(alloc, case.script)?;
+    expect_replies(rt, alloc, &mut partition, case.steps)?;
+    let same_rows = has_rows(alloc, &partition, case.rows)?;
+    assert!(rt; same_rows);
+    let counts = counts(alloc, &partition)?;
+    assert_eq!(rt; counts, [case.locks, case.subsets, case.steps.len()]);
+    assert_eq!(rt; partition.high(), case.high);
+    Ok(())
+}
+
 #[test]
 fn requests_are_replied_to(rt: HostRuntime) -> Result<(), Fail> {
-    let alloc = rt.alloc();
     for case in &CASES {
-        let mut partition = partition_of(alloc, case.script)?;
-        expect_replies(&rt, alloc, &mut partition, case.steps)?;
-        assert!(rt; are_rows(partition.rows(alloc)?.items(), case.rows));
-        assert_eq!(rt; partition.locks(alloc)?.items().len(), case.locks);
-        assert_eq!(rt; partition.blocks(), case.subsets);
-        assert_eq!(rt; partition.high(), case.high);
-        assert_eq!(rt; partition.history().len(), case.steps.len());
+        expect_case(&rt, rt.alloc(), case)?;
     }
     Ok(())
 }

@@ -1,7 +1,7 @@
 -- What SELECT, UPDATE and DELETE come to at the cells of their range.
 use Rattle.std.specs.Prelude.{◌≡◌, ◌<◌, ◌++◌, ℕ, List, [], ◌∷◌, length, map, take, drop, count_by, Option, Some, None, Bool, true, false, Result, Ok, Err, All, IfSome}
 use Rattle.std.specs.List.{AllByRecursion, filter_map}
-use Rattle.sql_base.specs.OnRows.{fault_of, first_failing, updated}
+use Rattle.sql_base.specs.OnRows.{fault_of, first_failing, or_later, updated}
 use Rattle.sql_base.specs.Rows.{packed}
 use Rattle.sql_base.specs.Val.{filter_val}
 use Rattle.sql_base.specs.declared.expressions.Expr.{Expr}
@@ -71,10 +71,6 @@ is_changed table s cell = is_change (cell_fate table s cell)
 abbrev pub abort_by : List ℕ → Fate → Option Abort
 abort_by key (Fails fault) = Some (Faulted key fault)
 abort_by key fate = None
-
-abbrev pub or_later : Option Abort → Option Abort → Option Abort
-or_later (Some abort) later = Some abort
-or_later None later = later
 
 -- the first record that fails
 abbrev pub first_abort : (Cell → Option Abort) → List Cell → Option Abort

@@ -15,9 +15,8 @@ use Rattle.dp_messages.specs.declared.requests.Ask.TheVariants.{BeginRead, Begin
 use Rattle.partition_state.specs.State.{State}
 use Rattle.partition_state.specs.Step.{are_columns_here, is_key_here, is_shaped, may_change}
 use Rattle.session_grammar.specs.Follows.{asker}
-use Rattle.session_grammar.specs.Plans.{filter_code, plan_of}
+use Rattle.session_grammar.specs.Plans.{filter_code, plan_of, sents_of}
 use Rattle.run_record.specs.Openings.{openings}
-use Rattle.run_record.specs.Tiles.{sents_of}
 
 -- the code of a predicate of the table, and of a SET list
 abbrev pub CarriesFilter : TableDef → Option (List ℕ) → Type 0

@@ -26,10 +26,6 @@ x_on t key = record { holder = t; prefix = key; mode = X }
 abbrev pub plan_of : TxnName → List ℕ → Verdict → Option Planned
 plan_of t key verdict = option_map (λ now. record { lock = x_on t key; now = now }) (change_of verdict)
 
-abbrev pub option_list : {A : Type 0} → Option A → List A
-option_list None = []
-option_list (Some x) = x ∷ []
-
 abbrev pub plans_of : TxnName → List Judged → List Planned
 plans_of t js = filter_map (λ j. plan_of t j.key j.verdict) js
 

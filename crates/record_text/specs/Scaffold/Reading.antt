@@ -15,13 +15,12 @@ use Rattle.one_thread.specs.declared.shown.Shown.{Shown}
 use Rattle.dp_messages.specs.declared.replies.Reply.{Reply as PartitionReply}
 use Rattle.dp_messages.specs.declared.replies.Reply.TheVariants as reply
 use Rattle.session_grammar.specs.Follows.{asker}
-use Rattle.session_grammar.specs.Plans.{Asker, plan_of}
+use Rattle.session_grammar.specs.Plans.{Asker, plan_of, sents_of}
 use Rattle.session_grammar.specs.Rows.{failure, is_end}
 use Rattle.session_grammar.specs.declared.logs.Answer.TheVariants.{Reply, Stamp}
 use Rattle.session_grammar.specs.declared.logs.LogEntry.{LogEntry}
 use Rattle.session_grammar.specs.declared.logs.LogEntry.TheVariants.{Asked, Drew}
 use Rattle.run_record.specs.Serial.{part_gives}
-use Rattle.run_record.specs.Tiles.{sents_of}
 
 -- the attempt of an entry, and how many entries at the front of a log are of one attempt
 abbrev pub ordinal_of : LogEntry → ℕ

@@ -9,12 +9,12 @@ use Rattle.sql_base.specs.declared.statements.Statement.{Statement}
 use Rattle.dp_messages.specs.Spelling.{IsAsk}
 use Rattle.dp_messages.specs.declared.requests.Ask.TheVariants.{Prepare}
 use Rattle.session_grammar.specs.Follows.{asker}
-use Rattle.session_grammar.specs.Plans.{Asker, plan_of}
+use Rattle.session_grammar.specs.Plans.{Asker, plan_of, sents_of}
 use Rattle.session_grammar.specs.UnderWay.{Awaiting, Drawing, UnderWay}
 use Rattle.session_grammar.specs.declared.plans.Plan.{Plan}
 use Rattle.session_grammar.specs.declared.plans.Plan.TheVariants.{Subsets}
 use Rattle.session_grammar.specs.declared.plans.Sent.{Sent}
-use Rattle.session_laws.specs.Scaffold.Machine.{Asks, At, Closes, Doing, Over, Place, Prepares, Stamps, Trying, asking, closing, sents_of, trying}
+use Rattle.session_laws.specs.Scaffold.Machine.{Asks, At, Closes, Doing, Over, Place, Prepares, Stamps, Trying, asking, closing, trying}
 use Rattle.requester_fs.specs.declared.stages.Stage.{Stage}
 use Rattle.requester_fs.specs.declared.stages.Stage.TheVariants as stage
 use Rattle.requester_fs.specs.declared.stages.Stand.{Stand}

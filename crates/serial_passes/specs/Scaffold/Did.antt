@@ -15,10 +15,10 @@ use Rattle.sql_base.specs.declared.tables.TableDef.{TableDef}
 use Rattle.sql_base.specs.declared.values.Value.{Value}
 use Rattle.partition_map.specs.Map.{part_of}
 use Rattle.session_grammar.specs.Follows.{AreTheirs, IsPart, asker}
-use Rattle.session_grammar.specs.Plans.{Asker, plan_of}
+use Rattle.session_grammar.specs.Plans.{Asker, plan_of, sents_of}
 use Rattle.session_grammar.specs.Rows.{is_for}
 use Rattle.session_grammar.specs.declared.logs.LogEntry.{LogEntry}
-use Rattle.run_record.specs.Tiles.{Tiles, range_of, sents_of}
+use Rattle.run_record.specs.Tiles.{Tiles, range_of}
 use Rattle.run_record.specs.declared.records.RunRecord.{RunRecord}
 use Rattle.serial_passes.specs.Scaffold.Inserts.{InsertsLast, IsStill}
 use Rattle.serial_passes.specs.Scaffold.Pieces.{NoPiece, PieceOf, in_range, is_between}

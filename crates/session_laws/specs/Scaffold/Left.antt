@@ -6,9 +6,9 @@ use Rattle.sql_base.specs.declared.statements.Statement.{Statement}
 use Rattle.dp_messages.specs.declared.replies.Reply.TheVariants as reply
 use Rattle.session_grammar.specs.declared.logs.Answer.{Answer}
 use Rattle.session_grammar.specs.declared.logs.Answer.TheVariants.{Reply}
-use Rattle.session_grammar.specs.Plans.{Asker, plan_of}
+use Rattle.session_grammar.specs.Plans.{Asker, plan_of, sents_of}
 use Rattle.session_grammar.specs.declared.plans.Sent.{Sent}
-use Rattle.session_laws.specs.Scaffold.Machine.{Asks, At, Closes, Doing, Over, Place, Prepares, Stamps, Trying, sents_of}
+use Rattle.session_laws.specs.Scaffold.Machine.{Asks, At, Closes, Doing, Over, Place, Prepares, Stamps, Trying}
 
 -- so many answers, each so often
 abbrev pub times : ℕ → ℕ → ℕ

@@ -12,7 +12,7 @@ use Rattle.dp_messages.specs.declared.requests.Ask.TheVariants.{Continue, Prepar
 use Rattle.dp_messages.specs.declared.requests.Request.{Request}
 use Rattle.session_grammar.specs.declared.logs.Answer.{Answer}
 use Rattle.session_grammar.specs.declared.logs.Answer.TheVariants.{Reply, PathFailed, Stamp}
-use Rattle.session_grammar.specs.Plans.{Asker, plan_of}
+use Rattle.session_grammar.specs.Plans.{Asker, plan_of, sents_of}
 use Rattle.session_grammar.specs.declared.plans.Plan.{Plan}
 use Rattle.session_grammar.specs.declared.plans.Plan.TheVariants.{Singles, Subsets}
 use Rattle.session_grammar.specs.declared.plans.Sent.{Sent}
@@ -62,10 +62,6 @@ task_at r Over = Nothing
 abbrev pub are_subsets : Plan → Bool
 are_subsets (Subsets sents) = true
 are_subsets (Singles sents) = false
-
-abbrev pub sents_of : Plan → List Sent
-sents_of (Subsets sents) = sents
-sents_of (Singles sents) = sents
 
 -- one more partition was sent something
 abbrev pub has_seen : List ℕ → ℕ → Bool

@@ -1,8 +1,9 @@
 -- The next one sees all, or a front.
 use Rattle.std.proofs.Common.{◌<◌, length, rules, ap}
 use Rattle.run_record.specs.Seen.{seen, seen_parts}
-use Rattle.trace_report.proofs.Showing.{collector_cut, collector_more, on_err}
+use Rattle.trace_report.proofs.Showing.{collector_cut, collector_more}
 use Rattle.trace_report.proofs.reports.show.Goals as goal
+use Rattle.sql_base.proofs.Truths.{on_err}
 
 pub returns-in_err-show_all-clause-cut : goal.returns-in_err-show_all-clause-cut
 returns-in_err-show_all-clause-cut g c =

@@ -1,7 +1,8 @@
 -- It sees the next history, or a front of it.
 use Rattle.std.proofs.Common.{◌+◌, ap}
-use Rattle.trace_report.proofs.Showing.{history_cut, history_more, on_err}
+use Rattle.trace_report.proofs.Showing.{history_cut, history_more}
 use Rattle.trace_report.proofs.reports.show_all.Goals as goal
+use Rattle.sql_base.proofs.Truths.{on_err}
 
 pub returns-in_err-show_history-clause-cut : goal.returns-in_err-show_history-clause-cut
 returns-in_err-show_history-clause-cut g c =

@@ -5,8 +5,9 @@ use Rattle.partition_core.specs.Scaffold.Changes.{tells}
 use Rattle.partition_core.specs.Scaffold.Contents.{parts_of, state_of}
 use Rattle.partition_state.specs.Step.{is_closing}
 use Rattle.partition_core.specs.Settling.{settles}
-use Rattle.partition_core.proofs.Rooms.{if_unsettled, on_err_any}
+use Rattle.partition_core.proofs.Rooms.{if_unsettled}
 use Rattle.partition_core.proofs.contents.Contents.judge_kind.Goals as goal
+use Rattle.sql_base.proofs.Truths.{on_err}
 
 pub returns-in-BeginRead-clause-told : goal.returns-in-BeginRead-clause-told
 returns-in-BeginRead-clause-told c =
@@ -28,40 +29,40 @@ pub returns-in-BeginRead-clause-settled : goal.returns-in-BeginRead-clause-settl
 returns-in-BeginRead-clause-settled c = let q = parts_of c.args.self.now in if_unsettled (state_of q) c.args.t c.args.ask.now c.begin_read.result (ap (settles (state_of q) c.args.t) c.in-BeginRead.is)
 
 pub returns-in-BeginRead-clause-closing : goal.returns-in-BeginRead-clause-closing
-returns-in-BeginRead-clause-closing c = on_err_any c.begin_read.result (ap is_closing c.in-BeginRead.is)
+returns-in-BeginRead-clause-closing c = on_err c.begin_read.result (ap is_closing c.in-BeginRead.is)
 
 pub returns-in-BeginUpdate-clause-settled : goal.returns-in-BeginUpdate-clause-settled
 returns-in-BeginUpdate-clause-settled c = let q = parts_of c.args.self.now in if_unsettled (state_of q) c.args.t c.args.ask.now c.begin_update.result (ap (settles (state_of q) c.args.t) c.in-BeginUpdate.is)
 
 pub returns-in-BeginUpdate-clause-closing : goal.returns-in-BeginUpdate-clause-closing
-returns-in-BeginUpdate-clause-closing c = on_err_any c.begin_update.result (ap is_closing c.in-BeginUpdate.is)
+returns-in-BeginUpdate-clause-closing c = on_err c.begin_update.result (ap is_closing c.in-BeginUpdate.is)
 
 pub returns-in-BeginDelete-clause-settled : goal.returns-in-BeginDelete-clause-settled
 returns-in-BeginDelete-clause-settled c = let q = parts_of c.args.self.now in if_unsettled (state_of q) c.args.t c.args.ask.now c.begin_delete.result (ap (settles (state_of q) c.args.t) c.in-BeginDelete.is)
 
 pub returns-in-BeginDelete-clause-closing : goal.returns-in-BeginDelete-clause-closing
-returns-in-BeginDelete-clause-closing c = on_err_any c.begin_delete.result (ap is_closing c.in-BeginDelete.is)
+returns-in-BeginDelete-clause-closing c = on_err c.begin_delete.result (ap is_closing c.in-BeginDelete.is)
 
 pub returns-in-Continue-clause-settled : goal.returns-in-Continue-clause-settled
 returns-in-Continue-clause-settled c = let q = parts_of c.args.self.now in if_unsettled (state_of q) c.args.t c.args.ask.now c.go_on.result (ap (settles (state_of q) c.args.t) c.in-Continue.is)
 
 pub returns-in-Continue-clause-closing : goal.returns-in-Continue-clause-closing
-returns-in-Continue-clause-closing c = on_err_any c.go_on.result (ap is_closing c.in-Continue.is)
+returns-in-Continue-clause-closing c = on_err c.go_on.result (ap is_closing c.in-Continue.is)
 
 pub returns-in-ReadKey-clause-settled : goal.returns-in-ReadKey-clause-settled
 returns-in-ReadKey-clause-settled c = let q = parts_of c.args.self.now in if_unsettled (state_of q) c.args.t c.args.ask.now c.read_key.result (ap (settles (state_of q) c.args.t) c.in-ReadKey.is)
 
 pub returns-in-ReadKey-clause-closing : goal.returns-in-ReadKey-clause-closing
-returns-in-ReadKey-clause-closing c = on_err_any c.read_key.result (ap is_closing c.in-ReadKey.is)
+returns-in-ReadKey-clause-closing c = on_err c.read_key.result (ap is_closing c.in-ReadKey.is)
 
 pub returns-in-Insert-clause-settled : goal.returns-in-Insert-clause-settled
 returns-in-Insert-clause-settled c = let q = parts_of c.args.self.now in if_unsettled (state_of q) c.args.t c.args.ask.now c.insert.result (ap (settles (state_of q) c.args.t) c.in-Insert.is)
 
 pub returns-in-Insert-clause-closing : goal.returns-in-Insert-clause-closing
-returns-in-Insert-clause-closing c = on_err_any c.insert.result (ap is_closing c.in-Insert.is)
+returns-in-Insert-clause-closing c = on_err c.insert.result (ap is_closing c.in-Insert.is)
 
 pub returns-in-LockGranule-clause-settled : goal.returns-in-LockGranule-clause-settled
 returns-in-LockGranule-clause-settled c = let q = parts_of c.args.self.now in if_unsettled (state_of q) c.args.t c.args.ask.now c.lock_granule.result (ap (settles (state_of q) c.args.t) c.in-LockGranule.is)
 
 pub returns-in-LockGranule-clause-closing : goal.returns-in-LockGranule-clause-closing
-returns-in-LockGranule-clause-closing c = on_err_any c.lock_granule.result (ap is_closing c.in-LockGranule.is)
+returns-in-LockGranule-clause-closing c = on_err c.lock_granule.result (ap is_closing c.in-LockGranule.is)

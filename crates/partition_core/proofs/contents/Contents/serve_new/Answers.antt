@@ -5,9 +5,10 @@ use Rattle.dp_messages.specs.declared.requests.Request.{Request}
 use Rattle.partition_core.specs.Scaffold.Contents.{Parts, parts_of, state_of, kept_of, IsServing}
 use Rattle.partition_core.specs.Scaffold.Changes.{changed, noted_parts}
 use Rattle.partition_core.specs.Rooms.{kept_back}
-use Rattle.partition_core.proofs.Rooms.{on_err_any, settles-closing, unsettled}
+use Rattle.partition_core.proofs.Rooms.{settles-closing, unsettled}
 use Rattle.partition_core.proofs.Serving.{IsServing-after, kept-after, served-below}
 use Rattle.partition_core.proofs.contents.Contents.serve_new.Goals as goal
+use Rattle.sql_base.proofs.Truths.{on_err}
 
 pub returns-clause-ok : goal.returns-clause-ok
 returns-clause-ok c =
@@ -52,9 +53,9 @@ returns-in_err-make_room-clause-serving c = subst IsServing (sym c.in_err-make_r
 pub returns-in_err-kept-clause-settled : goal.returns-in_err-kept-clause-settled
 returns-in_err-kept-clause-settled c =
     let t : TxnName = record { session = c.args.opener; ordinal = c.args.request.now.ordinal } in
-    on_err_any c.from_residual-in_err-kept.result (settles-closing (state_of (parts_of c.args.self.now)) t c.args.request.now.ask c.in_err-kept.ensures.closing)
+    on_err c.from_residual-in_err-kept.result (settles-closing (state_of (parts_of c.args.self.now)) t c.args.request.now.ask c.in_err-kept.ensures.closing)
 
 pub returns-in_err-make_room-clause-settled : goal.returns-in_err-make_room-clause-settled
 returns-in_err-make_room-clause-settled c =
     let t : TxnName = record { session = c.args.opener; ordinal = c.args.request.now.ordinal } in
-    on_err_any c.from_residual-in_err-make_room.result (unsettled (state_of (parts_of c.args.self.now)) t c.args.request.now.ask c.in_ok-judged.judged.change c.in_ok-judged.ensures.settled c.in_err-make_room.ensures.err)
+    on_err c.from_residual-in_err-make_room.result (unsettled (state_of (parts_of c.args.self.now)) t c.args.request.now.ask c.in_ok-judged.judged.change c.in_ok-judged.ensures.settled c.in_err-make_room.ensures.err)

@@ -3,9 +3,10 @@ use Rattle.std.specs.Prelude.{slice_get, IfSome}
 use Rattle.std.proofs.lemmas.Option.{slice_get_read}
 use Rattle.dp_messages.specs.Spelling.{IsAsk}
 use Rattle.session_grammar.specs.declared.plans.Sent.{Sent}
-use Rattle.session_laws.specs.Scaffold.Machine.{are_subsets, sents_of}
+use Rattle.session_laws.specs.Scaffold.Machine.{are_subsets}
 use Rattle.requester_fs.proofs.Walks.{planned_is, planned_spelled}
 use Rattle.requester_fs.proofs.walking.Planner.sent_at.Goals as goal
+use Rattle.session_grammar.specs.Plans.{sents_of}
 
 pub returns-in-Subsets-clause-subset : goal.returns-in-Subsets-clause-subset
 returns-in-Subsets-clause-subset c number =

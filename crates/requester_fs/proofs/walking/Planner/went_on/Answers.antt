@@ -3,10 +3,11 @@ use Rattle.std.specs.Prelude.{slice_get, IfSome}
 use Rattle.dp_messages.specs.Spelling.{IsAsk}
 use Rattle.session_grammar.specs.Follows.{asker}
 use Rattle.session_grammar.specs.declared.plans.Sent.{Sent}
-use Rattle.session_laws.specs.Scaffold.Machine.{At, next, sents_of, statements_at, went_on}
+use Rattle.session_laws.specs.Scaffold.Machine.{At, next, statements_at, went_on}
 use Rattle.requester_fs.specs.Scaffold.Stages.{IsStage, doing_of, plan_at, sents_behind, statements_behind, statements_of, trying_of}
 use Rattle.requester_fs.proofs.Walks.{sent_none, sent_open, stands_at, stands_by, statements_here}
 use Rattle.requester_fs.proofs.walking.Planner.went_on.Goals as goal
+use Rattle.session_grammar.specs.Plans.{sents_of}
 
 pub sent_at-requires-clause-there : goal.sent_at-requires-clause-there
 sent_at-requires-clause-there c =
