@@ -12,7 +12,7 @@ use lib.ListN.{get_elem?}
 use Rattle.atomic_table.specs.Table.{Final, Seen}
 use Rattle.turn_lock.specs.declared.view.Start.{Start}
 use Rattle.turn_lock.specs.declared.view.View.{View}
-use Rattle.turn_lock.specs.Pass.{PassState, HasRoot, IsMadeOf}
+use Rattle.turn_lock.specs.Pass.{PassState, HasRoot, IsMadeOf, StandIn}
 use Rattle.turn_lock.specs.Gather.{Gathers}
 use Rattle.turn_lock.specs.View.{own}
 use Rattle.turn_lock.proofs.Counts.{times, times-Contains, nowhere}
@@ -35,6 +35,7 @@ module _ {V E R : Type 0} (history : V → List E) (root_of : V → R) where
     pub roots : All (λ p. HasRoot p (root_of value)) passes
     pub begins : All (λ p. IsPrefix p.seen (history value)) passes
     pub made : IsMadeOf (history value) passes
+    pub own : All (λ p. StandIn p.mine p.seen) passes
 
   pub the_end_at : (xs : List (Option V)) (passes : List (PassState E R)) (o : Option V) (value : V) → (end : V) × IsEnd xs passes end → get_elem? xs 0 ≡ some o → o ≡ Some value → IsEnd xs passes value
   the_end_at xs passes o value end taken is =
@@ -68,5 +69,6 @@ module _ {V E R : Type 0} (history : V → List E) (root_of : V → R) (start : 
           roots = All-by_recursion (λ p. HasRoot p (root_of home.value)) passes (subst (λ (r : R). AllByRecursion (λ (p : PassState E R). HasRoot p r) passes) (sym home.root_is) (g.roots start f.starts));
           begins = All-by_recursion (λ p. IsPrefix p.seen (history home.value)) passes (subst (λ l. AllByRecursion (λ (p : PassState E R). IsPrefix p.seen l) passes) (sym home.history_is) (g.seen k.log f.merged f.seen));
           made = subst (λ l. IsMadeOf l passes) (sym home.history_is) (IsPermutation-trans _ _ _ (IsPermutation-sym _ _ g.mine) entries);
+          own = All-by_recursion (λ p. StandIn p.mine p.seen) passes g.own;
         },
       )

@@ -31,6 +31,7 @@ module _ {V E R : Type 0} (lock : LockId) (number passes_of : ℕ) (me : Me (Opt
     mine = subst (IsPermutation me.0.mine) (sym (append-nil me.0.mine)) (IsPermutation-refl me.0.mine);
     roots = λ s all. (root_told s me.0.starts its.start its.started all, tt);
     seen = λ log merged seen. (seen, tt);
+    own = (its.own, tt);
   }
 
   pub gathers_more : (v : View E R) (passes : List (PassState E R)) → Gathers v passes → IsSeatOf number passes_of me → Gathers (rejoined v me.0) (its_pass ∷ passes)
@@ -44,6 +45,7 @@ module _ {V E R : Type 0} (lock : LockId) (number passes_of : ℕ) (me : Me (Opt
         let parts = AllByRecursion-parts (λ x. IsPrefix x log) (v.merged ++ me.0.merged) (v.seen ∷ me.0.seen ∷ []) merged in
         let before = AllByRecursion-parts (λ x. IsPrefix x log) v.merged me.0.merged parts.0 in
         (parts.1.1.0, g.seen log before.0 parts.1.0);
+    own = (its.own, g.own);
   }
 
 -- the last of the passes is one of the lock and does not hold the turn, and so are those before it

@@ -3,8 +3,9 @@ use Rattle.std.proofs.Common.{◌≡◌, ◌≢◌, List, [], ◌∷◌, ◌++�
 use Rattle.atomic_table.specs.Table.{Me}
 use Rattle.turn_lock.specs.declared.view.View.{View}
 use Rattle.turn_lock.specs.declared.view.Start.{Start}
-use Rattle.turn_lock.specs.Pass.{AddsAtMostOne}
+use Rattle.turn_lock.specs.Pass.{AddsAtMostOne, StandIn}
 use Rattle.turn_lock.specs.View.{first_root, entered}
+use Rattle.turn_lock.proofs.Owning.{own_more}
 
 module _ {E : Type 0} where
   -- the same of equal lists
@@ -31,10 +32,11 @@ pub record IsBack {V E R : Type 0} (history : V → List E) (before after : Me (
   pub seen : history x ≡ after.0.seen
   pub numbers : after.0.numbers ≡ before.0.numbers
   pub starts : after.0.starts ≡ before.0.starts
+  pub own : StandIn before.0.mine before.0.seen → StandIn after.0.mine after.0.seen
 
 pub is_back : {V E R : Type 0} (history : V → List E) (m n : Me (Option V) (View E R)) (x : V) → m.0.holds ≡ true → AddsAtMostOne m.0.seen (history x)
     → (history x ≡ m.0.seen → n ≡ (m.0, (0, Some x) ∷ []))
     → ((entry : E) → history x ≡ m.0.seen ++ entry ∷ [] → n ≡ (entered m.0 entry, (0, Some x) ∷ []))
     → IsBack history m n x
-is_back history m n x holds (inl same) as_it_was added = subst (λ k. IsBack history m k x) (sym (as_it_was same)) record { now = refl; holds = holds; seen = same; numbers = refl; starts = refl }
-is_back history m n x holds (inr more) as_it_was added = subst (λ k. IsBack history m k x) (sym (added more.0 more.1)) record { now = refl; holds = holds; seen = more.1; numbers = refl; starts = refl }
+is_back history m n x holds (inl same) as_it_was added = subst (λ k. IsBack history m k x) (sym (as_it_was same)) record { now = refl; holds = holds; seen = same; numbers = refl; starts = refl; own = λ h. h }
+is_back history m n x holds (inr more) as_it_was added = subst (λ k. IsBack history m k x) (sym (added more.0 more.1)) record { now = refl; holds = holds; seen = more.1; numbers = refl; starts = refl; own = λ h. own_more m.0.mine m.0.seen more.0 h }

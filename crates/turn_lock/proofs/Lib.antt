@@ -2,6 +2,7 @@ pub mod Counts
 pub mod Shares
 pub mod Seats
 pub mod Steps
+pub mod Owning
 pub mod Giving
 pub mod Making
 pub mod Gathering

@@ -13,6 +13,7 @@ use Rattle.atomic_table.specs.Table.{State, Me, keeps, stepped}
 use Rattle.atomic_table.proofs.Lists.{at_set, set_else, set_again}
 use Rattle.turn_lock.specs.declared.view.Start.{Start}
 use Rattle.turn_lock.specs.declared.view.View.{View}
+use Rattle.turn_lock.specs.Pass.{StandIn}
 use Rattle.turn_lock.specs.View.{own, longer, carried_if, IsSeatOf}
 use Rattle.turn_lock.specs.Rule.{Fits, Kept}
 use Rattle.turn_lock.proofs.Counts.{total, times, term_le, terms_le, times-first, times-flat_map, times-IsPermutation, times-range_above, times-range_le}
@@ -71,9 +72,9 @@ module _ {A : Type 0} (P : A → Type 0) where
 
 -- the seat of a pass, after its view and what it has out have changed
 pub IsSeatOf-after : {V E R : Type 0} (number passes : ℕ) (m n : Me (Option V) (View E R)) (w : View E R) (c : List (ℕ × Option V)) → IsSeatOf number passes m
-    → n ≡ (w, c) → w.numbers ≡ m.0.numbers → w.starts ≡ m.0.starts → c ≡ carried_if w.holds → IsSeatOf number passes n
-IsSeatOf-after number passes m n w c its now numbers starts carries = subst (IsSeatOf number passes) (sym now)
-    record { numbered = numbers ∙ its.numbered; start = its.start; started = starts ∙ its.started; counted = its.counted; carries = carries }
+    → n ≡ (w, c) → w.numbers ≡ m.0.numbers → w.starts ≡ m.0.starts → c ≡ carried_if w.holds → StandIn w.mine w.seen → IsSeatOf number passes n
+IsSeatOf-after number passes m n w c its now numbers starts carries own = subst (IsSeatOf number passes) (sym now)
+    record { numbered = numbers ∙ its.numbered; start = its.start; started = starts ∙ its.started; counted = its.counted; carries = carries; own = own }
 
 module _ {V E R : Type 0} (history : V → List E) (root_of : V → R) (start : Start R) where
   abbrev pub Table : Type 0

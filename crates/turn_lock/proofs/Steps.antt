@@ -93,11 +93,11 @@ module _ {V E R : Type 0} (history : V → List E) (root_of : V → R) (start : 
       }
 
   -- the turn was free, and a seat that does not hold takes it
-  wins : (s : S) (k : K s) (id number : ℕ) (v : View E R) (value : V) → get_elem? s.views id ≡ some v → v.numbers ≡ number ∷ [] → k.turn ≡ 0 → history value ≡ k.log
-      → K (stepped s 0 (number + 1) id [] (holding v (history value)) (takes 0 (Some value)))
-  wins s k id number v value at is free log_is =
+  wins : (s : S) (k : K s) (id number : ℕ) (v : View E R) (value : V) (state : R) → get_elem? s.views id ≡ some v → v.numbers ≡ number ∷ [] → k.turn ≡ 0 → history value ≡ k.log
+      → K (stepped s 0 (number + 1) id [] (holding v (history value) state) (takes 0 (Some value)))
+  wins s k id number v value state at is free log_is =
       let f = k.fits id v at in
-      let w = holding v (history value) in
+      let w = holding v (history value) state in
       let nobody : (j : ℕ) (u : View E R) → get_elem? s.views j ≡ some u → u.holds ≡ true → ⊥ = λ j u e h. omega (arith, (k.fits j u e).turn_is h) in
       record {
         log = k.log;
@@ -121,18 +121,18 @@ module _ {V E R : Type 0} (history : V → List E) (root_of : V → R) (start : 
         entries = same_entries s k id v w at refl;
       }
 
-  takes_alone : (slots id number : ℕ) (v : View E R) → v.holds ≡ false → v.numbers ≡ number ∷ []
-      → Allows K slots id (v, []) 0 (λ n. either (eqb n 0) (number + 1) n) (took history root_of (step slots 0 0 (number + 1) none) (v, []))
-  takes_alone slots id number v idle is s k size at _ =
-      exchanged (get_or s.words 0 0) 0 (number + 1) (Goes s 0 id (v, []) (took history root_of (step slots 0 0 (number + 1) none) (v, [])))
+  takes_alone : (state_of : V → R) (slots id number : ℕ) (v : View E R) → v.holds ≡ false → v.numbers ≡ number ∷ []
+      → Allows K slots id (v, []) 0 (λ n. either (eqb n 0) (number + 1) n) (took history root_of state_of (step slots 0 0 (number + 1) none) (v, []))
+  takes_alone state_of slots id number v idle is s k size at _ =
+      exchanged (get_or s.words 0 0) 0 (number + 1) (Goes s 0 id (v, []) (took history root_of state_of (step slots 0 0 (number + 1) none) (v, [])))
       (λ zero_found.
       let free : k.turn ≡ 0 = sym (word0 history root_of start s k) ∙ zero_found in
       let home = k.free free in
       let f = k.fits id v at in (
-        holding v (history home.value),
+        holding v (history home.value) (state_of home.value),
         takes 0 (Some home.value),
         home.at_home,
-        wins s k id number v home.value at is free home.history_is,
+        wins s k id number v home.value (state_of home.value) at is free home.history_is,
         ((λ _. (home.value, refl, subst (IsPrefix v.seen) (sym home.history_is) f.seen, AllByRecursion-weaker (λ x. x ≡ start) (λ x. root_of home.value ≡ x.root) (λ x e. home.root_is ∙ ap (λ (y : Start R). y.root) (sym e)) v.starts f.starts)), λ ne. absurd (ne zero_found)),
       ))
       (λ other.
@@ -160,10 +160,10 @@ module _ {V E R : Type 0} (history : V → List E) (root_of : V → R) (start : 
         ),
       ))
 
-  pub takes_turn : (slots id number : ℕ) (m : Sat) → m.0.holds ≡ false → m.0.numbers ≡ number ∷ [] → m.1 ≡ []
-      → Allows K slots id m 0 (λ n. either (eqb n 0) (number + 1) n) (took history root_of (step slots 0 0 (number + 1) none) m)
-  takes_turn slots id number m idle is empty =
-      subst (λ (c : List (ℕ × Option V)). Allows K slots id (m.0, c) 0 (λ n. either (eqb n 0) (number + 1) n) (took history root_of (step slots 0 0 (number + 1) none) (m.0, c))) (sym empty) (takes_alone slots id number m.0 idle is)
+  pub takes_turn : (state_of : V → R) (slots id number : ℕ) (m : Sat) → m.0.holds ≡ false → m.0.numbers ≡ number ∷ [] → m.1 ≡ []
+      → Allows K slots id m 0 (λ n. either (eqb n 0) (number + 1) n) (took history root_of state_of (step slots 0 0 (number + 1) none) m)
+  takes_turn state_of slots id number m idle is empty =
+      subst (λ (c : List (ℕ × Option V)). Allows K slots id (m.0, c) 0 (λ n. either (eqb n 0) (number + 1) n) (took history root_of state_of (step slots 0 0 (number + 1) none) (m.0, c))) (sym empty) (takes_alone state_of slots id number m.0 idle is)
 
   pub counts : (slots id : ℕ) (m : Sat) → m.0.holds ≡ true → Allows K slots id m 1 (λ n. n) (counted history root_of (step slots 1 0 0 none) m)
   counts slots id m holds s k size at _ = (m.0, keeps, tt, still history root_of start s k 1 id m.0 m.1 at, (refl, word1 history root_of start s k ∙ ap length (sym ((k.fits id m.0 at).seen_all holds))))

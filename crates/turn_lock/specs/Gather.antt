@@ -5,7 +5,7 @@ use Rattle.std.specs.List.Sorted.{IsPermutation}
 use mathlib.Core.List.{IsPrefix}
 use Rattle.turn_lock.specs.declared.view.Start.{Start}
 use Rattle.turn_lock.specs.declared.view.View.{View}
-use Rattle.turn_lock.specs.Pass.{PassState, HasRoot}
+use Rattle.turn_lock.specs.Pass.{PassState, HasRoot, StandIn}
 
 -- the view v has what these passes had
 pub record Gathers {E R : Type 0} (v : View E R) (passes : List (PassState E R)) : Type 0 where
@@ -15,3 +15,4 @@ pub record Gathers {E R : Type 0} (v : View E R) (passes : List (PassState E R))
   -- what it knows of the root, and of the history, is told of all of them
   pub roots : (start : Start R) → AllByRecursion (λ x. x ≡ start) v.starts → AllByRecursion (λ p. HasRoot p start.root) passes
   pub seen : (log : List E) → AllByRecursion (λ xs. IsPrefix xs log) v.merged → IsPrefix v.seen log → AllByRecursion (λ p. IsPrefix p.seen log) passes
+  pub own : AllByRecursion (λ p. StandIn p.mine p.seen) passes

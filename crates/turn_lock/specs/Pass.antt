@@ -1,6 +1,6 @@
 -- What contracts see of a lock and of its passes.
-use Rattle.std.specs.Prelude.{◌≡◌, ◌⊎◌, ℕ, List, [], ◌∷◌, ◌++◌, length, Option, Some, Bool, true, false}
-use Rattle.std.specs.List.{flat_map, enumerate_from}
+use Rattle.std.specs.Prelude.{◌≡◌, ◌≤◌, ◌⊎◌, ℕ, ◌+◌, List, [], ◌∷◌, ◌++◌, length, Option, Some, Bool, true, false, slice_get}
+use Rattle.std.specs.List.{AllByRecursion, flat_map, enumerate_from}
 use Rattle.std.specs.List.Sorted.{IsPermutation}
 use Rattle.atomic_table.specs.Seated.{TableId}
 
@@ -25,12 +25,14 @@ pub record PassState (E R : Type 0) : Type 0 where
   pub mine : List (ℕ × E)
   -- whether it holds the turn
   pub holds : Bool
+  -- for each turn that it took, the state in which it found the value
+  pub found : List R
   -- for each take that it lost, the number of the pass that held the turn
   pub losses : List ℕ
 
 -- a pass that has seen nothing yet
 abbrev pub new_pass : {E R : Type 0} → LockId → R → ℕ → PassState E R
-new_pass lock root number = record { lock = lock; number = number; root = Some root; seen = []; mine = []; holds = false; losses = [] }
+new_pass lock root number = record { lock = lock; number = number; root = Some root; seen = []; mine = []; holds = false; found = []; losses = [] }
 
 -- the value handed to `new` had this root
 abbrev pub HasRoot : {E R : Type 0} → PassState E R → R → Type 0
@@ -41,9 +43,9 @@ abbrev pub AddsAtMostOne : {E : Type 0} → List E → List E → Type 0
 AddsAtMostOne {E} seen history = (history ≡ seen) ⊎ ((entry : E) × (history ≡ seen ++ entry ∷ []))
 
 module _ {E R : Type 0} where
-  -- the pass, once it has taken the turn and seen this history
-  abbrev pub with_turn : PassState E R → List E → PassState E R
-  with_turn pass history = record pass { seen = history; holds = true }
+  -- the pass, once it has taken the turn, seen this history, and found the value in this state
+  abbrev pub with_turn : PassState E R → List E → R → PassState E R
+  with_turn pass history state = record pass { seen = history; holds = true; found = pass.found ++ state ∷ [] }
 
   -- once it has lost a take to the pass with this number
   abbrev pub with_loss : PassState E R → ℕ → PassState E R
@@ -60,3 +62,13 @@ module _ {E R : Type 0} where
 -- the history is made of just these passes' own entries, each once, at its place
 abbrev pub IsMadeOf : {E R : Type 0} → List E → List (PassState E R) → Type 0
 IsMadeOf history passes = IsPermutation (flat_map (λ p. p.mine) passes) (enumerate_from 0 history)
+
+-- the places of the entries rise, from this one on
+abbrev pub RisesFrom : {E : Type 0} → ℕ → List (ℕ × E) → Type 0
+RisesFrom least [] = Unit {0}
+RisesFrom least (own ∷ rest) = (least ≤ own.0) × RisesFrom (own.0 + 1) rest
+
+-- these entries stand in this history at their places, which rise
+pub record StandIn {E : Type 0} (mine : List (ℕ × E)) (history : List E) : Type 0 where
+  pub rise : RisesFrom 0 mine
+  pub stand : AllByRecursion (λ own. slice_get history own.0 ≡ Some own.1) mine

@@ -47,10 +47,10 @@ module _ {V E R : Type 0} (history : V → List E) (root_of : V → R) where
   SeatState = Me (Option V) (View E R)
 
   -- a take that found the turn free has the value; another was lost to the pass that holds the turn
-  abbrev pub took : Step (Option V) → SeatState → ℕ → SeatState → Type 0
-  took step before found after =
+  abbrev pub took : (V → R) → Step (Option V) → SeatState → ℕ → SeatState → Type 0
+  took state_of step before found after =
       (found ≡ 0 → (value : V)
-      × (after ≡ (holding before.0 (history value), (0, Some value) ∷ before.1))
+      × (after ≡ (holding before.0 (history value) (state_of value), (0, Some value) ∷ before.1))
       × IsPrefix before.0.seen (history value)
       × AllByRecursion (λ start. root_of value ≡ start.root) before.0.starts)
       × (found ≢ 0 → (holder : ℕ)

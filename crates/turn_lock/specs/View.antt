@@ -4,7 +4,7 @@ use Rattle.atomic_table.specs.Table.{Me}
 use Rattle.turn_lock.specs.declared.view.Opening.{Opening}
 use Rattle.turn_lock.specs.declared.view.Start.{Start}
 use Rattle.turn_lock.specs.declared.view.View.{View}
-use Rattle.turn_lock.specs.Pass.{LockId, PassState}
+use Rattle.turn_lock.specs.Pass.{LockId, PassState, StandIn}
 
 -- what a lock that began so tells its seats
 abbrev pub start_of : {V R : Type 0} → (V → R) → Opening V → Start R
@@ -27,19 +27,19 @@ first_root (start ∷ starts) = Some start.root
 module _ {E R : Type 0} where
   -- a seat with no number
   abbrev pub fresh : List (Start R) → View E R
-  fresh starts = record { numbers = []; seen = []; mine = []; holds = false; losses = []; merged = []; starts = starts }
+  fresh starts = record { numbers = []; seen = []; mine = []; holds = false; found = []; losses = []; merged = []; starts = starts }
 
   -- the first seat, which has number 0
   abbrev pub first_view : Start R → View E R
-  first_view start = record { numbers = 0 ∷ []; seen = []; mine = []; holds = false; losses = []; merged = []; starts = start ∷ [] }
+  first_view start = record { numbers = 0 ∷ []; seen = []; mine = []; holds = false; found = []; losses = []; merged = []; starts = start ∷ [] }
 
   -- the number n was drawn
   abbrev pub drawn_as : View E R → ℕ → View E R
   drawn_as v n = record v { numbers = n ∷ [] }
 
-  -- the turn was taken, and the whole history seen
-  abbrev pub holding : View E R → List E → View E R
-  holding v log = record v { seen = log; holds = true }
+  -- the turn was taken, the whole history seen, and the value found in this state
+  abbrev pub holding : View E R → List E → R → View E R
+  holding v log state = record v { seen = log; holds = true; found = v.found ++ state ∷ [] }
 
   -- a take was lost to the pass of this number
   abbrev pub lost_to : View E R → ℕ → View E R
@@ -65,7 +65,7 @@ module _ {E R : Type 0} where
 
   -- what contracts see of the pass with this seat
   abbrev pub shown : LockId → ℕ → View E R → PassState E R
-  shown lock number v = record { lock = lock; number = number; root = first_root v.starts; seen = v.seen; mine = v.mine; holds = v.holds; losses = v.losses }
+  shown lock number v = record { lock = lock; number = number; root = first_root v.starts; seen = v.seen; mine = v.mine; holds = v.holds; found = v.found; losses = v.losses }
 
 -- the slot that a pass has out while it holds the turn, which is empty, since the value was taken from it
 abbrev pub carried_if : {V : Type 0} → Bool → List (ℕ × Option V)
@@ -79,3 +79,4 @@ pub record IsSeatOf {V E R : Type 0} (number passes : ℕ) (me : Me (Option V) (
   pub started : me.0.starts ≡ start ∷ []
   pub counted : start.passes ≡ passes
   pub carries : me.1 ≡ carried_if me.0.holds
+  pub own : StandIn me.0.mine me.0.seen

@@ -1,7 +1,7 @@
 //! The end of a lock.
 ghost use Rattle.std.specs.Prelude.{◌≡◌, ℕ, ◌<◌, [], false, map, All, Contains, vec_len};
 ghost use mathlib.Core.List.{IsPrefix};
-ghost use Rattle.turn_lock.specs.Pass.{HasRoot, IsMadeOf, lock_id};
+ghost use Rattle.turn_lock.specs.Pass.{HasRoot, IsMadeOf, StandIn, lock_id};
 ghost use Rattle.turn_lock.specs.Gather.{Gathers};
 
 use crate::lock::TurnLock;
@@ -18,6 +18,8 @@ impl<V: StandsFor> TurnLock<V> {
         ensures root { All (λ p. HasRoot p (V.root result)) passes.items }
         ensures begins { All (λ p. IsPrefix p.seen (V.history result)) passes.items }
         ensures made { IsMadeOf (V.history result) passes.items }
+        // Each pass's entries stand in what it has seen, in the order in which it added them.
+        ensures own { All (λ p. StandIn p.mine p.seen) passes.items }
     {
         let TurnLock { table } = self;
         let seat = gather(&table.shared, passes);

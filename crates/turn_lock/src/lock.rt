@@ -55,7 +55,7 @@ impl<V: StandsFor> TurnLock<V> {
     pub fn try_turn(&self, pass: &mut Pass<V>) -> Result<Held<V>, Busy>
         requires lock { pass.old.lock ≡ self.now }
         requires idle { pass.old.holds ≡ false }
-        ensures taken { IfOk result (λ held. pass.new ≡ with_turn pass.old (V.history held.value)) }
+        ensures taken { IfOk result (λ held. pass.new ≡ with_turn pass.old (V.history held.value) (V.state held.value)) }
         ensures taker { IfOk result (λ held. held.taker ≡ pass.new) }
         ensures begins { IfOk result (λ held. IsPrefix pass.old.seen (V.history held.value)) }
         ensures root { IfOk result (λ held. HasRoot pass.old (V.root held.value)) }
@@ -91,7 +91,7 @@ impl<V: StandsFor> TurnLock<V> {
         requires lock { pass.old.lock ≡ self.now }
         requires idle { pass.old.holds ≡ false }
         ensures taken { let pass_then = record pass.old { losses = pass.new.losses } in
-            pass.new ≡ with_turn pass_then (V.history result.value) }
+            pass.new ≡ with_turn pass_then (V.history result.value) (V.state result.value) }
         ensures losses { IsPrefix pass.old.losses pass.new.losses }
         ensures taker { result.taker ≡ pass.new }
         ensures begins { IsPrefix pass.old.seen (V.history result.value) }

@@ -4,7 +4,8 @@ use crate::view::SeatOf;
 use std::marker::Model;
 
 /// The right to take turns at one lock. Contracts see its lock, its number, its root, how much of the history it has
-/// seen, its own entries, whether it holds the turn, and who held the turn at each take that it lost.
+/// seen, its own entries, whether it holds the turn, the state of the value at each turn that it took, and who held the
+/// turn at each take that it lost.
 #[derive(Drop)]
 pub struct Pass<V: StandsFor> {
     pub(crate) number: u32,

@@ -29,6 +29,8 @@ pub struct View<E, R> {
     // Its own entries, each with its place in the history.
     pub mine: LinkedList<(u64, E)>,
     pub holds: bool,
+    // The state of the value, for each turn that was taken.
+    pub found: LinkedList<R>,
     // The number of the holder, for each take that was lost.
     pub losses: LinkedList<u32>,
     // What the seats that were joined had seen.
@@ -71,7 +73,7 @@ impl<V: StandsFor> TableRule<Option<V>, View<V::Entry, V::Root>, Opening<V>> for
 pub struct Take;
 
 impl<V: StandsFor> Play<Option<V>, View<V::Entry, V::Root>> for Take {
-    ghost then = { took V.history V.root };
+    ghost then = { took V.history V.root V.state };
 }
 
 // Reads the length of the history, while holding the turn.

@@ -23,6 +23,8 @@ impl StandsFor for Numbers {
 
     ghost root = { λ n. tt };
 
+    ghost state = { λ n. tt };
+
     fn entries(&self) -> u64 {
         self.list.len() as u64
     }
@@ -52,6 +54,8 @@ impl StandsFor for Account {
     ghost history = { λ a. a.paid.items };
 
     ghost root = { λ a. a.opened_with };
+
+    ghost state = { λ a. a.opened_with };
 
     fn entries(&self) -> u64 {
         self.paid.len() as u64

@@ -1,5 +1,7 @@
-use Rattle.std.proofs.Common.{refl, sym, ap, ◌∙◌}
+use Rattle.std.proofs.Common.{[], refl, sym, ap, ◌∙◌, subst}
+use Rattle.turn_lock.specs.Pass.{StandIn}
 use Rattle.turn_lock.specs.View.{carried_if, start_of}
+use Rattle.turn_lock.proofs.Owning.{own_none}
 use Rattle.turn_lock.proofs.make.pass_of.Goals as goal
 
 pub invariant_of-result : goal.invariant_of-result
@@ -9,4 +11,5 @@ invariant_of-result g c = record {
   started = ap (λ m. m.0.starts) c.requires;
   counted = refl;
   carries = ap (λ m. m.1) c.requires ∙ sym (ap (λ m. carried_if m.0.holds) c.requires);
+  own = subst (λ m. StandIn m.0.mine m.0.seen) (sym c.requires) (own_none []);
 }

@@ -21,4 +21,4 @@ returns g c =
     let all : (n : ℕ) → n < c.self.inside.table.shared.key.passes → Contains (map (λ (p : PassState _ _). p.number) c.args.passes.items) n = λ n low. c.requires.all n (subst (λ (l : LockId). n < l.passes) c.self.view_is low) in
     let end = the_end g.V.StandsFor.history g.V.StandsFor.root _ _ c.gather-seat.result.me.0 c.args.passes.items _ _ c.gather-seat.ensures.all all c.close_with-closed.ensures.values.2 in
     let it = the_end_at g.V.StandsFor.history g.V.StandsFor.root _ c.args.passes.items c.take.result c.unwrap-value.result end c.take.ensures.value c.unwrap-value.ensures in
-    record { root = it.roots; begins = it.begins; made = it.made }
+    record { root = it.roots; begins = it.begins; made = it.made; own = it.own }

@@ -31,4 +31,4 @@ invariant_of-pass g c =
     let may : AddsAtMostOne c.pass.inside.seat.me.0.seen (g.V.StandsFor.history c.held.inside.value) = AddsAtMostOne-same _ _ _ _ (ap (λ (p : PassState _ _). p.seen) c.pass.view_is) (ap (λ (h : HeldState _ _ _). g.V.StandsFor.history h.value) c.held.view_is) c.requires.history in
     let back = is_back g.V.StandsFor.history c.pass.inside.seat.me c.put_back.new.seat.me c.held.inside.value holds may c.put_back.ensures.same c.put_back.ensures.added in
     let now = c.store.ensures.2 ∙ ap (λ n. (given n.0, rest n.1)) back.now in
-    IsSeatOf-after _ _ c.pass.inside.seat.me _ _ _ c.pass.invariant now back.numbers back.starts refl
+    IsSeatOf-after _ _ c.pass.inside.seat.me _ _ _ c.pass.invariant now back.numbers back.starts refl (back.own c.pass.invariant.own)
