@@ -27,7 +27,7 @@ pub fn below(run: &[Lock], depth: usize, byte: u8) -> &[Lock]
     next
 }
 
-/// How many locks of a run go on by branches before this one.
+/// How many locks of a run go on by branches below the bound.
 fn count_before(run: &[Lock], depth: usize, bound: u16) -> usize
     requires { IsNonDecreasingBy (branch depth) run.now }
     ensures within { result ≤ length run.now }

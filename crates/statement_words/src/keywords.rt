@@ -152,7 +152,7 @@ fn written_as(bytes: &[u8], keywords: &[Keyword]) -> Option<Keyword>
     None
 }
 
-/// The keywords that begin with this byte, an upper case letter.
+/// The keywords that begin with this byte. Of a byte with which none begins, all of them.
 #[tactic(auto, unfolding(crate::specs::Keywords::keyword_of))]
 fn beginning_with(first: u8) -> &'static [Keyword]
     ensures { (rest : List ℕ) → find (λ k. bytes_eq (first ∷ rest) (spelling k)) result.now ≡ keyword_of (first ∷ rest) }
