@@ -19,12 +19,12 @@ use Rattle.lock_tables.specs.Runs.{branch, branch_of, ends_at, goes_on_by, IsNod
 use Rattle.lock_tables.proofs.TableOrders.{order-filter, order-rest, order-without}
 
 -- branches rise in table order
-then-le : (r s : Ordering) → is_lt (ordering_then r s) ≡ true → is_le r ≡ true
+pub then-le : (r s : Ordering) → is_lt (ordering_then r s) ≡ true → is_le r ≡ true
 then-le Less s h = refl
 then-le Equal s h = refl
 then-le Greater s h = absurd (false≢true h)
 
-le-number : (m n : ℕ) (o : Ordering) → is_le (ordering_then (nat_cmp m n) o) ≡ true → m ≤ n
+pub le-number : (m n : ℕ) (o : Ordering) → is_le (ordering_then (nat_cmp m n) o) ≡ true → m ≤ n
 le-number m n o h = at (nat_cmp m n) refl h
   where
     at : (c : Ordering) → nat_cmp m n ≡ c → is_le (ordering_then c o) ≡ true → m ≤ n

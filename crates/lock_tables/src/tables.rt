@@ -1,9 +1,11 @@
 //! A table of locks, as its callers see it.
-ghost use Rattle.std.specs.Prelude.{◌≡◌, ◌<◌, ◌≤◌, ◌+◌, [], option_copied, IfOk, OnOk, OnErr};
+ghost use Rattle.std.specs.Prelude.{◌≡◌, ◌<◌, ◌≤◌, ◌+◌, [], length, option_copied, IfOk, OnOk, OnErr};
 ghost use Rattle.sql_base.specs.Locks.{first_conflict, granted, released, InTableOrder};
 ghost use Rattle.lock_tables.specs.LockTables.{AnswersGrant};
+ghost use Rattle.lock_tables.specs.Nodes.{nodes};
 
 use crate::faults::LockFault;
+use crate::nodes::count_nodes;
 use crate::rows::{admit, copies, first_bar, grant, release};
 use sql_base::{List, Lock, Mode, NoMemory, TxnName};
 use std::alloc::Global;
@@ -83,6 +85,13 @@ impl LockTable {
         ensures spare { self.old.spare ≤ self.new.spare }
     {
         release(&mut self.locks, holder);
+    }
+
+    /// How many nodes the tree has: the different byte lists that granules of its locks begin with, none without locks.
+    pub fn nodes(&self) -> u128
+        ensures { result ≡ length (nodes self.now.locks) }
+    {
+        count_nodes(&self.locks)
     }
 
     /// The locks, in table order.

@@ -1,5 +1,5 @@
 -- What holds of an expression by what holds of its operands.
-use Rattle.std.proofs.Common.{◌≡◌, subst}
+use Rattle.std.proofs.Common.{subst}
 use Rattle.sql_base.specs.declared.expressions.Expr.{Expr, ind-Expr, map-Expr, roll-Expr}
 use Rattle.sql_base.specs.declared.expressions.Expr.TheOpen.{And, Arith, Column, Compare, Expr-F, Not, Number, Or, Text}
 

@@ -1,5 +1,5 @@
 -- Facts of orderings and of keys in their order that several crates need.
-use Rattle.std.proofs.Common.{◌-◌, ◌∙◌, ◌≡◌, Bool, List, ap, arith, false, refl, sym, true, ℕ}
+use Rattle.std.proofs.Common.{◌∙◌, ◌≡◌, Bool, List, ap, arith, false, refl, sym, true, ℕ}
 use Rattle.std.proofs.lemmas.Bool.{false≢true}
 use Rattle.std.proofs.lemmas.Bool.Decides.{nat_tests}
 use Rattle.std.proofs.lemmas.Cmp.{nat_list_cmp_total}

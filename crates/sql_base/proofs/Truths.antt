@@ -1,5 +1,5 @@
 -- Facts of truth values, tests and numbers that several crates need.
-use Rattle.std.proofs.Common.{◌&&◌, ◌*◌, ◌+◌, ◌-◌, ◌<◌, ◌||◌, ◌≡◌, ◌≤◌, Bool, None, Option, Some, arith, cond, eqb, false, max, min, not, refl, suc, sym, true, ℕ}
+use Rattle.std.proofs.Common.{◌&&◌, ◌*◌, ◌+◌, ◌<◌, ◌||◌, ◌≡◌, ◌≤◌, Bool, None, Option, Some, arith, cond, eqb, false, max, min, not, refl, suc, sym, true, ℕ}
 use Rattle.std.proofs.Math.Nat.{mul-le-mul_right}
 use Rattle.std.proofs.lemmas.Bool.{false≢true}
 use Rattle.std.proofs.lemmas.Bool.Decides.{nat_tests}

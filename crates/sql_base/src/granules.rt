@@ -26,8 +26,8 @@ pub fn common_prefix(alloc: Global, range: &KeyRange) -> Result<Prefix, NoMemory
     Ok(Prefix::from_vec(low[..common].to_vec(alloc)?))
 }
 
-// How many bytes two strings have in common from the first on.
-fn common_length(a: &[u8], b: &[u8]) -> usize
+/// How many bytes two strings have in common from the first on.
+pub fn common_length(a: &[u8], b: &[u8]) -> usize
     ensures common { result ≡ common_prefix_len nat_eq a.now b.now }
     ensures within { result ≤ length a.now }
 {

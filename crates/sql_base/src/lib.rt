@@ -22,7 +22,7 @@ pub use bytes::{Code, Key, Name, Packed, Prefix, Text, is_printable};
 pub use computing::{compare_texts, compute, holds};
 pub use expressions::{ArithOp, CompareOp, Expr};
 pub use faults::{Cause, EvalFault, Fault, NoMemory};
-pub use granules::{common_prefix, overlaps};
+pub use granules::{common_length, common_prefix, overlaps};
 pub use key_ranges::{KeyRange, Start};
 pub use keys::{
     KeyFault, append_key_value, append_padded, encode_key, key_number, padded, row_key, width_of,

@@ -47,10 +47,12 @@ fn the_first_on_the_way_down_and_then_below(rt: HostRuntime) -> Result<(), Fail>
         mode: Mode::S,
     };
     let mut locks = LockTable::new(alloc);
+    assert_eq!(rt; locks.nodes(), 0);
     locks.reserve(2)?;
     for wanted in [long, short] {
         assert_eq!(rt; locks.grant(lock_of(alloc, wanted)?), Ok(()));
     }
+    assert_eq!(rt; locks.nodes(), 3);
     let rows: [(u32, &[u8], Mode, Option<Wanted<'_>>); 4] = [
         (3, b"AA\x80", Mode::X, Some(short)),
         (3, b"", Mode::X, Some(short)),
@@ -66,6 +68,7 @@ fn the_first_on_the_way_down_and_then_below(rt: HostRuntime) -> Result<(), Fail>
         assert!(rt; is_right, "{session} {granule:?}");
     }
     locks.release_all(name_of(1));
+    assert_eq!(rt; locks.nodes(), 2);
     let [left] = locks.items() else {
         return Err("another number of locks".into());
     };
