@@ -11,6 +11,7 @@ use Rattle.key_sequenced.specs.Blocks.{IsMarked}
 use Rattle.key_sequenced.specs.Cells.{ending}
 use Rattle.key_sequenced.specs.Files.{with_cell}
 use Rattle.key_sequenced.specs.declared.Cell.{Cell}
+use Rattle.sql_base.proofs.Truths.{neither_holds, none-is}
 
 abbrev pub AreFree : List Cell → Type 0
 AreFree cells = AllByRecursion (λ c. c.writer ≡ None) cells
@@ -20,20 +21,12 @@ ended-free t kept [] h = refl
 ended-free t kept (c ∷ cells) h =
     ap (λ o. cons_option (ending t kept c o) (filter_map (λ x. ending t kept x x.writer) cells)) h.0 ∙ ap (λ cs. c ∷ cs) (ended-free t kept cells h.1)
 
-none-there : (o : Option TxnName) → is_some o ≡ false → o ≡ None
-none-there None h = refl
-none-there (Some t) h = absurd (cc)
-
-both-off : (a b : Bool) → (a || b) ≡ false → (a ≡ false) × (b ≡ false)
-both-off false b h = (refl, h)
-both-off true b h = absurd (cc)
-
 -- the mark after a search for writers
 pub marked-found : (cells : List Cell) → IsMarked (list_any (λ c. is_some c.writer) cells) cells
 marked-found [] h = tt
 marked-found (c ∷ cells) h =
-    let parts = both-off (is_some c.writer) (list_any (λ x. is_some x.writer) cells) h in
-    (none-there c.writer parts.0, marked-found cells parts.1)
+    let parts = neither_holds (is_some c.writer) (list_any (λ x. is_some x.writer) cells) h in
+    (none-is c.writer parts.0, marked-found cells parts.1)
 
 laid-free : (cell : Cell) (cells : List Cell) → cell.writer ≡ None → AreFree cells → AreFree (with_cell cell cells)
 laid-free cell [] none h = (none, tt)
@@ -43,8 +36,8 @@ laid-free cell (c ∷ cells) none h =
 -- the mark after one more cell
 pub marked-laid : (mark : Bool) (cell : Cell) (cells : List Cell) → IsMarked mark cells → IsMarked (mark || is_some cell.writer) (with_cell cell cells)
 marked-laid mark cell cells h off =
-    let parts = both-off mark (is_some cell.writer) off in
-    laid-free cell cells (none-there cell.writer parts.1) (h parts.0)
+    let parts = neither_holds mark (is_some cell.writer) off in
+    laid-free cell cells (none-is cell.writer parts.1) (h parts.0)
 
 -- the mark of a block is one of each of its halves
 pub marked-front : (mark : Bool) (front back all : List Cell) → front ++ back ≡ all → IsMarked mark all → IsMarked mark front

@@ -1,9 +1,9 @@
 -- Columns named together, one after the eq_turned, and none twice.
-use Rattle.std.proofs.Common.{◌≡◌, ◌<◌, ℕ, List, [], ◌∷◌, ◌++◌, true, false, refl}
-use Rattle.std.specs.Prelude.{nat_eq, not, ◌||◌}
+use Rattle.std.proofs.Common.{◌≡◌, ℕ, List, [], ◌∷◌, ◌++◌, true, false, refl}
+use Rattle.std.specs.Prelude.{nat_eq, not}
 use Rattle.std.specs.List.{list_any, AllByRecursion}
 use Rattle.sql_base.specs.Tables.{all_differ}
-use Rattle.sql_base.proofs.Truths.{both_hold, neither, neither_holds, not-true}
+use Rattle.sql_base.proofs.Truths.{both_hold, neither_holds, not-true}
 use Rattle.statement_rules.proofs.Listing.{eq_turned}
 use Rattle.sql_base.proofs.ListFacts.{any-none_more}
 

@@ -1,6 +1,6 @@
 -- Printed expressions lead the reader back to their trees.
 use Rattle.std.proofs.Common.{◌≡◌, ℕ, suc, ◌+◌, max, ℤ, pos, negsuc, List, [], ◌∷◌, ◌++◌, Bool, true, false, Option, Some, None, refl, sym, ap, subst, arith, ◌&&◌}
-use Rattle.std.specs.Prelude.{slice_get, is_some, not, ◌^◌}
+use Rattle.std.specs.Prelude.{slice_get, is_some, not}
 use Rattle.sql_base.specs.Kinds.{depth_of, depth_step}
 use Rattle.sql_base.specs.declared.expressions.ArithOp.{ArithOp}
 use Rattle.sql_base.specs.declared.expressions.CompareOp.{CompareOp}

@@ -19,6 +19,7 @@ use Rattle.statement_printer.proofs.Joining.{words_of_pos}
 use Rattle.statement_printer.specs.Printing.{column_words, first_words, inside, int_words, kept, literal_words, name_of, row_words, sign, value_words, with_commas}
 use Rattle.statement_round_trip.proofs.RowsFit.{as_long, take_short}
 use Rattle.sql_base.proofs.Truths.{both_hold}
+use Rattle.sql_base.proofs.ListFacts.{all-weaker}
 
 abbrev pub AreFormed : List Word → Type 0
 AreFormed words = AllByRecursion IsFormedWord words
@@ -44,11 +45,6 @@ formed_commas words (x ∷ xs) h = formed_both (words x) (flat_map (λ x. sign s
 pub formed_inside : (words : List Word) → AreFormed words → AreFormed (inside words)
 formed_inside words h = (tt, formed_both words (sign signs.Close ∷ []) h (tt, tt))
 
--- what is so of each is so of each again
-pub each : {A : Type 0} {P Q : A → Type 0} → ((x : A) → P x → Q x) → (xs : List A) → AllByRecursion P xs → AllByRecursion Q xs
-each f [] h = tt
-each f (x ∷ xs) h = (f x h.0, each f xs h.1)
-
 -- ---- names
 
 pub formed_place : (columns : List Column) → AllByRecursion (λ column. IsShortName column.name) columns → (c : ℕ) → c < length columns → IsFormedWord (name_of (slice_get columns c))
@@ -58,7 +54,7 @@ formed_place (column ∷ columns) all (suc c) h = formed_place columns all.1 c (
 
 pub formed_places : (columns : List Column) → AllByRecursion (λ column. IsShortName column.name) columns → (places : List ℕ) → AllByRecursion (λ c. c < length columns) places
     → AreFormed (with_commas (column_words columns) places)
-formed_places columns all places within = formed_commas (column_words columns) places (each (λ c h. (formed_place columns all c h, tt)) places within)
+formed_places columns all places within = formed_commas (column_words columns) places (all-weaker _ _ (λ c h. (formed_place columns all c h, tt)) places within)
 
 -- ---- values
 

@@ -27,10 +27,11 @@ use Rattle.statement_words.specs.declared.tokens.Sign.TheVariants as signs
 use Rattle.statement_words.specs.Spans.{IsFormedWord}
 use Rattle.statement_printer.specs.Printing.{access_words, check_words, column_words, declaration, declared_words, expr_words, filter_words, first_words, firsts_words, insert_words, inside, into_words, key_words, kind_words, limit_words, limits_words, load_words, name_of, place_words, row_words, script_words, session_words, set_words, sign, statement_words, table_name, table_words, with_commas, work_words, words_on}
 use Rattle.statement_round_trip.proofs.FormedExpressions.{formed_expression}
-use Rattle.statement_round_trip.proofs.FormedParts.{each, formed_all, formed_both, formed_commas, formed_first, formed_inside, formed_places, formed_row, AreFormed}
+use Rattle.statement_round_trip.proofs.FormedParts.{formed_all, formed_both, formed_commas, formed_first, formed_inside, formed_places, formed_row, AreFormed}
 use Rattle.statement_round_trip.proofs.Naming.{name_at}
 use Rattle.statement_round_trip.proofs.TableNames.{AreDeclared}
 use Rattle.statement_round_trip.proofs.UpdatesRead.{column_of}
+use Rattle.sql_base.proofs.ListFacts.{all-weaker}
 
 -- ---- limits
 
@@ -91,14 +92,14 @@ wide_at (c ∷ places) ks w = wide_found (slice_get ks c) (chosen places ks) (λ
 formed_firsts : (table : TableDef) → IsTable table → (firsts : List (List Value)) → AllByRecursion (λ first. are_leading (key_kinds table) first ≡ true) firsts → AreFormed (firsts_words firsts)
 formed_firsts table is [] h = tt
 formed_firsts table is (first ∷ firsts) h =
-    (tt, (tt, formed_commas first_words (first ∷ firsts) (each (λ vs leading. formed_first (key_kinds table) vs (wide_at table.key (kinds table) is.widths) leading) (first ∷ firsts) h)))
+    (tt, (tt, formed_commas first_words (first ∷ firsts) (all-weaker _ _ (λ vs leading. formed_first (key_kinds table) vs (wide_at table.key (kinds table) is.widths) leading) (first ∷ firsts) h)))
 
 formed_table : (table : TableDef) → IsTable table → AreFormed (table_words table)
 formed_table table is =
     let columns = flat_map declared_words table.columns in
     let checks = flat_map (check_words table.columns) table.checks in
     let declared = formed_both columns _ (formed_columns table.columns is.column_names is.widths)
-    (formed_both (key_words table.columns table.key) checks (formed_key table is) (formed_all (check_words table.columns) table.checks (each (λ e suits. formed_check table is e suits) table.checks is.checks))) in (
+    (formed_both (key_words table.columns table.key) checks (formed_key table is) (formed_all (check_words table.columns) table.checks (all-weaker _ _ (λ e suits. formed_check table is e suits) table.checks is.checks))) in (
       tt,
       (
         is.name.name,
@@ -117,7 +118,7 @@ formed_load tables declared load is =
       (
         subst (λ (o : Option TableDef). IsFormedWord (table_name o)) (sym is.1) fits.name.name,
         formed_both (with_commas row_words load.rows) (sign signs.Semicolon ∷ [])
-            (formed_commas row_words load.rows (each (λ row h. formed_row (kinds table) row fits.widths h) load.rows is.3.0)) (tt, tt),
+            (formed_commas row_words load.rows (all-weaker _ _ (λ row h. formed_row (kinds table) row fits.widths h) load.rows is.3.0)) (tt, tt),
       ),
     )
 
@@ -131,7 +132,7 @@ formed_access : (table : TableDef) → IsTable table → (filter : Option Expr) 
 formed_access table is filter a suits = formed_both (filter_words table.columns filter) _ (formed_filter table is filter suits) (tt, (tt, (tt, (tt, tt))))
 
 formed_sets : (table : TableDef) → IsTable table → (sets : List Assign) → AllByRecursion (IsAssign table) sets → AreFormed (with_commas (set_words table.columns) sets)
-formed_sets table is sets all = formed_commas (set_words table.columns) sets (each formed_set sets all)
+formed_sets table is sets all = formed_commas (set_words table.columns) sets (all-weaker _ _ formed_set sets all)
   where
     formed_set : (set : Assign) → IsAssign table set → AreFormed (set_words table.columns set)
     formed_set set suits =
@@ -161,12 +162,12 @@ formed_statement tables declared st is =
 formed_work : (tables : List TableDef) → AreDeclared tables → (work : Work) → AllByRecursion (IsStatement tables) work.statements → AreFormed (work_words tables work)
 formed_work tables declared work all =
     formed_both (flat_map (statement_words tables) work.statements) _
-    (formed_all (statement_words tables) work.statements (each (λ st is. formed_statement tables declared st is) work.statements all)) (tt, (tt, (tt, tt)))
+    (formed_all (statement_words tables) work.statements (all-weaker _ _ (λ st is. formed_statement tables declared st is) work.statements all)) (tt, (tt, (tt, tt)))
 
 formed_session : (tables : List TableDef) → AreDeclared tables → (works : List Work) → AllByRecursion (λ work. AllByRecursion (IsStatement tables) work.statements) works
     → AreFormed (session_words tables works)
 formed_session tables declared works all =
-    (tt, (tt, formed_all (work_words tables) works (each (λ work each_is. formed_work tables declared work each_is) works all)))
+    (tt, (tt, formed_all (work_words tables) works (all-weaker _ _ (λ work each_is. formed_work tables declared work each_is) works all)))
 
 -- ---- the whole
 
@@ -176,6 +177,6 @@ formed_script script is declared =
     let loads = flat_map (load_words script.tables) script.loads in
     let sessions = flat_map (session_words script.tables) script.sessions in
     formed_both (limits_words script.limits) _ (formed_limits script.limits is.limits)
-    (formed_both tables _ (formed_all table_words script.tables (each (λ table suits. formed_table table suits) script.tables is.tables))
-    (formed_both loads sessions (formed_all (load_words script.tables) script.loads (each (λ load suits. formed_load script.tables declared load suits) script.loads is.loads))
-    (formed_all (session_words script.tables) script.sessions (each (λ works suits. formed_session script.tables declared works suits) script.sessions is.statements))))
+    (formed_both tables _ (formed_all table_words script.tables (all-weaker _ _ (λ table suits. formed_table table suits) script.tables is.tables))
+    (formed_both loads sessions (formed_all (load_words script.tables) script.loads (all-weaker _ _ (λ load suits. formed_load script.tables declared load suits) script.loads is.loads))
+    (formed_all (session_words script.tables) script.sessions (all-weaker _ _ (λ works suits. formed_session script.tables declared works suits) script.sessions is.statements))))
