@@ -22,7 +22,7 @@ use Rattle.partition_state.specs.Step.{answered, step}
 use Rattle.partition_state.specs.declared.lives.Live.{Live}
 use Rattle.partition_laws.specs.Committed.{commits, is_ending}
 use Rattle.partition_laws.specs.Keeping.{HasFloor, IsGuarded, IsWriter, Keeps, lives_in}
-use Rattle.partition_laws.specs.Moves.{Move, Starts, Opens, Closes, Advances, Inserts, Commits, Undoes, Fits, Moved, after, after_quantum, by}
+use Rattle.partition_laws.specs.Moves.{Move, Starts, Opens, Closes, Advances, Inserts, Commits, Undoes, IsMoveOf, Moved, after, after_quantum, by}
 use Rattle.partition_laws.proofs.Committing.{committed-kept, committed-laid}
 use Rattle.partition_laws.proofs.Corollaries.{unlive-settled}
 use Rattle.partition_laws.proofs.Floors.{prepare-told}
@@ -42,7 +42,7 @@ one_lies : Lies 1 8 1
 one_lies = (omega arith, omega arith)
 
 -- high
-high-after : (p : State) (t : TxnName) (ask : Ask) (r : PartitionReply) (move : Move) → is_commit ask ≡ false → Fits p t ask r move → (after p t move).high ≡ p.high
+high-after : (p : State) (t : TxnName) (ask : Ask) (r : PartitionReply) (move : Move) → is_commit ask ≡ false → IsMoveOf p t ask r move → (after p t move).high ≡ p.high
 high-after p t ask r (Starts block granule) h f = granule-high (after_quantum (with_live p t) block) block granule block.access
 high-after p t ask r (Opens block granule last) h f = granule-high (after_quantum (with_live p t) block) block granule block.access
 high-after p t ask r (Commits stamp) h f = absurd (false≢true (sym h ∙ ap is_commit f.1))
@@ -58,7 +58,7 @@ high-step p sync request h =
 same_stamp : (m n : ℕ) → EndCommit m ≡ EndCommit n → n ≡ m
 same_stamp m n h = cc
 
-high-commit_after : (p : State) (t : TxnName) (stamp : ℕ) (r : PartitionReply) (move : Move) → Fits p t (EndCommit stamp) r move → (after p t move).high ≤ max p.high stamp
+high-commit_after : (p : State) (t : TxnName) (stamp : ℕ) (r : PartitionReply) (move : Move) → IsMoveOf p t (EndCommit stamp) r move → (after p t move).high ≤ max p.high stamp
 high-commit_after p t stamp r (Starts block granule) f = let same = granule-high (after_quantum (with_live p t) block) block granule block.access in omega arith
 high-commit_after p t stamp r (Opens block granule last) f = let same = granule-high (after_quantum (with_live p t) block) block granule block.access in omega arith
 high-commit_after p t stamp r (Commits n) f = let same : n ≡ stamp = same_stamp stamp n f.1 in omega arith
@@ -169,7 +169,7 @@ commit-calm t base top q sync ordinal stamp own above l done =
     )
 
 -- a Prepare leaves the cells, and tells no floor above high
-prepare-cells_after : (p : State) (t : TxnName) (r : PartitionReply) (move : Move) → Fits p t Prepare r move → (after p t move).cells ≡ p.cells
+prepare-cells_after : (p : State) (t : TxnName) (r : PartitionReply) (move : Move) → IsMoveOf p t Prepare r move → (after p t move).cells ≡ p.cells
 prepare-cells_after p t r (Starts block granule) f = let none = f.2.0 in absurd (cc)
 prepare-cells_after p t r (Opens block granule last) f = let none = f.3.0 in absurd (cc)
 prepare-cells_after p t r (Closes b) f = let other = f.2.2 in absurd (cc)

@@ -19,7 +19,7 @@ use Rattle.dp_messages.specs.declared.requests.Ask.TheVariants.{Insert}
 use Rattle.dp_messages.specs.declared.requests.Request.{Request}
 use Rattle.partition_state.specs.State.{State, with_live}
 use Rattle.partition_state.specs.Step.{answered, step, with_granule}
-use Rattle.partition_laws.specs.Moves.{Move, Stays, Enters, Starts, Opens, Closes, Advances, Inserts, Locks, Prepares, Commits, Undoes, Fits, Moved, after, after_quantum, by, handled_by}
+use Rattle.partition_laws.specs.Moves.{Move, Stays, Enters, Starts, Opens, Closes, Advances, Inserts, Locks, Prepares, Commits, Undoes, IsMoveOf, Moved, after, after_quantum, by, handled_by}
 use Rattle.partition_laws.proofs.CellMoves.{all-inserted, cell_key, keys-after}
 use Rattle.partition_laws.proofs.KeepingMoves.{handled_in}
 use Rattle.sql_base.proofs.ListSearches.{all-filter_map}
@@ -69,7 +69,7 @@ module _ (P : List ℕ → Type 0) where
   ended-keys : (t : TxnName) (kept : Cell → Option (List Value)) (cells : List Cell) → AllByRecursion HasKey cells → AllByRecursion HasKey (filter_map (λ cell. ending t kept cell cell.writer) cells)
   ended-keys t kept cells h = all-filter_map HasKey HasKey (λ cell. ending t kept cell cell.writer) cells (λ cell cell' has e. end-key t kept cell cell' cell.writer has e) h
 
-  move-keys : (p : State) (t : TxnName) (ask : Ask) (reply : Reply) (move : Move) → KeysAre p → IsGood p.table ask → Fits p t ask reply move → KeysAre (after p t move)
+  move-keys : (p : State) (t : TxnName) (ask : Ask) (reply : Reply) (move : Move) → KeysAre p → IsGood p.table ask → IsMoveOf p t ask reply move → KeysAre (after p t move)
   move-keys p t ask reply Stays h good f = h
   move-keys p t ask reply Enters h good f = h
   move-keys p t ask reply (Starts block granule) h good f = granule-keys (after_quantum (with_live p t) block) block granule block.access (handled-keys p block h)

@@ -8,7 +8,7 @@ use Rattle.sql_base.specs.Keys.{key_lt, key_le}
 use Rattle.sql_base.proofs.KeyOrders.{key_le-trans, le_from_lt, lt-trans, lt_from_not_le, lt_le-trans}
 use Rattle.sql_base.proofs.ListFacts.{all_joined, all_right, all-weaker}
 use Rattle.sql_base.proofs.Truths.{plus-one}
-use Rattle.key_sequenced.specs.Blocks.{begins_by, begun_by, home, joined, AreBlocks, IsFilled}
+use Rattle.key_sequenced.specs.Blocks.{begins_by, begun_by, home, joined, AreBlocks, HasCells}
 use Rattle.key_sequenced.specs.Cells.{AreCells}
 use Rattle.key_sequenced.specs.declared.Cell.{Cell}
 use Rattle.key_sequenced.proofs.Counts.{cells-rest, cells-without}
@@ -51,7 +51,7 @@ one_more key block blocks true e = rw e (plus-one (begun_by key blocks))
 one_more key block blocks false e = rw e refl
 
 -- the cells of the blocks that begin above the key
-pub behind-begun : (key : List ℕ) (blocks : List (List Cell)) → AreCells (joined blocks) → AllByRecursion IsFilled blocks → AreAbove key (joined (drop (begun_by key blocks) blocks))
+pub behind-begun : (key : List ℕ) (blocks : List (List Cell)) → AreCells (joined blocks) → AllByRecursion HasCells blocks → AreAbove key (joined (drop (begun_by key blocks) blocks))
 behind-begun key [] rise filled = tt
 behind-begun key ([] ∷ blocks) rise filled = absurd (omega (arith, filled.0))
 behind-begun key ((c ∷ cells) ∷ blocks) rise filled = at (key_le c.key key) refl (behind-begun key blocks (cells-back (c ∷ cells) (joined blocks) rise) filled.1)
@@ -63,7 +63,7 @@ behind-begun key ((c ∷ cells) ∷ blocks) rise filled = at (key_le c.key key) 
         rw (one_more key (c ∷ cells) blocks false e) (first, above-more key c.key (cells ++ joined blocks) first (above-first c (cells ++ joined blocks) rise))
 
 -- all blocks but the last that begins by the key are below it
-pub before-begun : (key : List ℕ) (block : List Cell) (blocks : List (List Cell)) → AreCells (block ++ joined blocks) → AllByRecursion IsFilled blocks → AreBelow key (joined (take (begun_by key blocks) (block ∷ blocks)))
+pub before-begun : (key : List ℕ) (block : List Cell) (blocks : List (List Cell)) → AreCells (block ++ joined blocks) → AllByRecursion HasCells blocks → AreBelow key (joined (take (begun_by key blocks) (block ∷ blocks)))
 before-begun key block [] rise filled = tt
 before-begun key block ([] ∷ blocks) rise filled = absurd (omega (arith, filled.0))
 before-begun key block ((c ∷ cells) ∷ blocks) rise filled = at (key_le c.key key) refl (before-begun key (c ∷ cells) blocks (cells-back block ((c ∷ cells) ++ joined blocks) rise) filled.1)

@@ -4,7 +4,7 @@ use Rattle.sql_base.specs.Keys.{is_from}
 use Rattle.sql_base.specs.declared.key_ranges.Start.{Start}
 use Rattle.sql_base.specs.declared.lock_names.TxnName.{TxnName}
 use Rattle.sql_base.specs.declared.values.Value.{Value}
-use Rattle.key_sequenced.specs.Blocks.{home, joined, key_of, AreBlocks}
+use Rattle.key_sequenced.specs.Blocks.{home, joined, start_key, AreBlocks}
 use Rattle.key_sequenced.specs.Cells.{AreCells, find_cell}
 use Rattle.key_sequenced.specs.Files.{rewritten_at, with_cell}
 use Rattle.key_sequenced.specs.declared.Cell.{Cell}
@@ -102,9 +102,9 @@ module _ (cell : Cell) (blocks : List (List Cell)) (place : ℕ) (block : List C
   }
 
 -- the cells from a start on are those of its block, and all behind it
-pub from-at : (start : Start) (blocks : List (List Cell)) (place : ℕ) (block : List Cell) → AreBlocks blocks → IsAt (key_of start) blocks place block
+pub from-at : (start : Start) (blocks : List (List Cell)) (place : ℕ) (block : List Cell) → AreBlocks blocks → IsAt (start_key start) blocks place block
     → filter (λ c. is_from start c.key) block ++ joined (drop (place + 1) blocks) ≡ filter (λ c. is_from start c.key) (joined blocks)
 from-at start blocks place block h here =
-    let sides : IsHome (key_of start) blocks place = subst (IsHome (key_of start) blocks) (sym here.home_is) (at_home (key_of start) blocks h) in
+    let sides : IsHome (start_key start) blocks place = subst (IsHome (start_key start) blocks) (sym here.home_is) (at_home (start_key start) blocks h) in
     sym (ap (filter (λ c. is_from start c.key)) (joined-at blocks place block here.lt here.is)
     ∙ from-home start (joined (take place blocks)) block (joined (drop (place + 1) blocks)) sides.below sides.above)

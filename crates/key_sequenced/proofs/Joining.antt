@@ -9,7 +9,7 @@ use Rattle.sql_base.specs.Keys.{key_eq, key_lt}
 use Rattle.sql_base.specs.declared.lock_names.TxnName.{TxnName}
 use Rattle.sql_base.specs.declared.values.Value.{Value}
 use Rattle.sql_base.proofs.Orderings.{key_gt-differs, key_lt-back, key_lt-differs}
-use Rattle.key_sequenced.specs.Blocks.{joined, is_filled, IsFilled}
+use Rattle.key_sequenced.specs.Blocks.{joined, has_cells, HasCells}
 use Rattle.key_sequenced.specs.Cells.{ending, find_cell, rewritten}
 use Rattle.key_sequenced.specs.Files.{rewritten_at, with_cell}
 use Rattle.key_sequenced.specs.declared.Cell.{Cell}
@@ -91,17 +91,17 @@ module _ (t : TxnName) (key : List ℕ) (now : Option (List Value)) where
       cond_both (key_eq c.key key) (rewritten t now c ∷ cells) (c ∷ rewritten_at t key now cells) (λ x. length x ≡ length (c ∷ cells)) (λ _. refl) (λ _. ap suc (length-changed cells))
 
 -- no block becomes empty
-pub filled-set : (blocks : List (List Cell)) (place : ℕ) (block : List Cell) → AllByRecursion IsFilled blocks → 0 < length block → AllByRecursion IsFilled (set blocks place block)
+pub filled-set : (blocks : List (List Cell)) (place : ℕ) (block : List Cell) → AllByRecursion HasCells blocks → 0 < length block → AllByRecursion HasCells (set blocks place block)
 filled-set [] place block h lt = tt
 filled-set (b ∷ blocks) zero block h lt = (lt, h.1)
 filled-set (b ∷ blocks) (suc place) block h lt = (h.0, filled-set blocks place block h.1 lt)
 
-pub filled-insert : (blocks : List (List Cell)) (place : ℕ) (block : List Cell) → AllByRecursion IsFilled blocks → 0 < length block → AllByRecursion IsFilled (insert blocks place block)
+pub filled-insert : (blocks : List (List Cell)) (place : ℕ) (block : List Cell) → AllByRecursion HasCells blocks → 0 < length block → AllByRecursion HasCells (insert blocks place block)
 filled-insert blocks zero block h lt = (lt, h)
 filled-insert [] (suc place) block h lt = (lt, tt)
 filled-insert (b ∷ blocks) (suc place) block h lt = (h.0, filled-insert blocks place block h.1 lt)
 
-pub filled-at : (blocks : List (List Cell)) (place : ℕ) (block : List Cell) → AllByRecursion IsFilled blocks → place < length blocks → block ≡ get_or blocks place block → 0 < length block
+pub filled-at : (blocks : List (List Cell)) (place : ℕ) (block : List Cell) → AllByRecursion HasCells blocks → place < length blocks → block ≡ get_or blocks place block → 0 < length block
 filled-at [] place block h lt is = absurd (omega arith)
 filled-at (b ∷ blocks) zero block h lt is = subst (λ x. 0 < length x) (sym is) h.0
 filled-at (b ∷ blocks) (suc place) block h lt is = filled-at blocks place block h.1 (omega arith) is
@@ -113,12 +113,12 @@ ended-joined t kept (block ∷ blocks) =
     ap (λ cs. filter_map (λ c. ending t kept c c.writer) block ++ cs) (ended-joined t kept blocks) ∙ sym (filter_map-append (λ c. ending t kept c c.writer) block (joined blocks))
 
 -- empty blocks hold no cell
-pub joined-filled : (blocks : List (List Cell)) → joined (filter is_filled blocks) ≡ joined blocks
+pub joined-filled : (blocks : List (List Cell)) → joined (filter has_cells blocks) ≡ joined blocks
 joined-filled [] = refl
 joined-filled ([] ∷ blocks) = joined-filled blocks
 joined-filled ((c ∷ cells) ∷ blocks) = ap (λ cs. (c ∷ cells) ++ cs) (joined-filled blocks)
 
-pub filled-filter : (blocks : List (List Cell)) → AllByRecursion IsFilled (filter is_filled blocks)
+pub filled-filter : (blocks : List (List Cell)) → AllByRecursion HasCells (filter has_cells blocks)
 filled-filter [] = tt
 filled-filter ([] ∷ blocks) = filled-filter blocks
 filled-filter ((c ∷ cells) ∷ blocks) = (omega arith, filled-filter blocks)

@@ -10,18 +10,18 @@ use Rattle.sql_base.proofs.KeyOrders.{key_le-not_lt, key_le-trans, le_from_lt, l
 use Rattle.sql_base.proofs.ListFacts.{all-weaker, filter-none}
 use Rattle.sql_base.proofs.Orderings.{key_lt-back}
 use Rattle.sql_base.proofs.Truths.{plus-one}
-use Rattle.key_sequenced.specs.Blocks.{key_of}
+use Rattle.key_sequenced.specs.Blocks.{start_key}
 use Rattle.key_sequenced.specs.Cells.{AreCells}
 use Rattle.key_sequenced.specs.declared.Cell.{Cell}
 use Rattle.key_sequenced.proofs.Belonging.{above-first, AreAbove, AreBelow}
 use Rattle.key_sequenced.proofs.Counts.{cells-rest}
 
 -- the cells from a start on: none before the block of its key, and all behind it
-not_from : (start : Start) (c : Cell) → key_lt c.key (key_of start) ≡ true → is_from start c.key ≡ false
+not_from : (start : Start) (c : Cell) → key_lt c.key (start_key start) ≡ true → is_from start c.key ≡ false
 not_from (At low) c h = not_le_from_lt low c.key h
 not_from (After last) c h = key_lt-back c.key last h
 
-yes_from : (start : Start) (c : Cell) → key_lt (key_of start) c.key ≡ true → is_from start c.key ≡ true
+yes_from : (start : Start) (c : Cell) → key_lt (start_key start) c.key ≡ true → is_from start c.key ≡ true
 yes_from (At low) c h = le_from_lt low c.key h
 yes_from (After last) c h = h
 
@@ -29,11 +29,11 @@ filter-all : (p : Cell → Bool) (cells : List Cell) → AllByRecursion (λ c. p
 filter-all p [] h = refl
 filter-all p (c ∷ cells) h = rw h.0 (ap (λ cs. c ∷ cs) (filter-all p cells h.1))
 
-pub from-home : (start : Start) (front block behind : List Cell) → AreBelow (key_of start) front → AreAbove (key_of start) behind → filter (λ c. is_from start c.key) (front ++ (block ++ behind)) ≡ filter (λ c. is_from start c.key) block ++ behind
+pub from-home : (start : Start) (front block behind : List Cell) → AreBelow (start_key start) front → AreAbove (start_key start) behind → filter (λ c. is_from start c.key) (front ++ (block ++ behind)) ≡ filter (λ c. is_from start c.key) block ++ behind
 from-home start front block behind below above =
     let p : Cell → Bool = λ c. is_from start c.key in
-    let first : filter p front ≡ [] = filter-none p front (all-weaker (λ (c : Cell). key_lt c.key (key_of start) ≡ true) (λ c. p c ≡ false) (not_from start) front below) in
-    let last : filter p behind ≡ behind = filter-all p behind (all-weaker (λ (c : Cell). key_lt (key_of start) c.key ≡ true) (λ c. p c ≡ true) (yes_from start) behind above) in
+    let first : filter p front ≡ [] = filter-none p front (all-weaker (λ (c : Cell). key_lt c.key (start_key start) ≡ true) (λ c. p c ≡ false) (not_from start) front below) in
+    let last : filter p behind ≡ behind = filter-all p behind (all-weaker (λ (c : Cell). key_lt (start_key start) c.key ≡ true) (λ c. p c ≡ true) (yes_from start) behind above) in
     filter-append p front (block ++ behind) ∙ ap (λ x. x ++ filter p (block ++ behind)) first ∙ filter-append p block behind ∙ ap (λ x. filter p block ++ x) last
 
 -- within one block they are those behind the cells before the start

@@ -25,17 +25,17 @@ joined (block ∷ blocks) = block ++ joined blocks
 abbrev pub IsMarked : Bool → List Cell → Type 0
 IsMarked written cells = written ≡ false → AllByRecursion (λ c. c.writer ≡ None) cells
 
-abbrev pub IsFilled : List Cell → Type 0
-IsFilled block = 0 < length block
+abbrev pub HasCells : List Cell → Type 0
+HasCells block = 0 < length block
 
-abbrev pub is_filled : List Cell → Bool
-is_filled [] = false
-is_filled (cell ∷ cells) = true
+abbrev pub has_cells : List Cell → Bool
+has_cells [] = false
+has_cells (cell ∷ cells) = true
 
 -- no block is empty, and the keys rise from the first cell to the last
 pub record AreBlocks (blocks : List (List Cell)) : Type 0 where
   pub rise : AreCells (joined blocks)
-  pub filled : AllByRecursion IsFilled blocks
+  pub filled : AllByRecursion HasCells blocks
 
 -- the first key of the block isn't above the key
 abbrev pub begins_by : List ℕ → List Cell → Bool
@@ -50,9 +50,9 @@ begun_by key blocks = prefix_len (begins_by key) blocks
 abbrev pub home : List ℕ → List (List Cell) → ℕ
 home key blocks = begun_by key blocks - 1
 
-abbrev pub key_of : Start → List ℕ
-key_of (At key) = key
-key_of (After key) = key
+abbrev pub start_key : Start → List ℕ
+start_key (At key) = key
+start_key (After key) = key
 
 -- blocks that wait for cells
 abbrev pub AreEmpty : List (List Cell) → Type 0

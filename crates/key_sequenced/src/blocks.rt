@@ -2,7 +2,7 @@
 ghost use Rattle.std.specs.Prelude.{◌≡◌, ◌≤◌, ◌<◌, ◌++◌, ◌||◌, [], is_some, length, reverse, vec_len, vec_capacity, IfOk};
 ghost use Rattle.key_sequenced.specs.Cells.{AreCells, restored, cells_settled};
 ghost use Rattle.key_sequenced.specs.Files.{with_cell, rewritten_at};
-ghost use Rattle.key_sequenced.specs.Blocks.{begins_by, is_filled, most_cells, kept_cells};
+ghost use Rattle.key_sequenced.specs.Blocks.{begins_by, has_cells, most_cells, kept_cells};
 
 use crate::Cell;
 use crate::changes::{lay, rewrite_at};
@@ -69,7 +69,7 @@ impl Block {
 
     /// It has a cell.
     pub fn is_filled(&self) -> bool
-        ensures { result ≡ is_filled self.now }
+        ensures { result ≡ has_cells self.now }
     {
         self.cells.first().is_some()
     }

@@ -4,7 +4,7 @@ ghost use Rattle.sql_base.specs.Keys.{is_from};
 ghost use Rattle.key_sequenced.specs.Cells.{AreCells, find_cell, restored, cells_settled};
 ghost use Rattle.key_sequenced.specs.Files.{with_cell, rewritten_at};
 ghost use Rattle.key_sequenced.specs.declared.Cell.{Cell};
-ghost use Rattle.key_sequenced.specs.Blocks.{begun_by, home, joined, key_of, most_cells, AreBlocks, AreEmpty};
+ghost use Rattle.key_sequenced.specs.Blocks.{begun_by, home, joined, start_key, most_cells, AreBlocks, AreEmpty};
 
 use crate::Cell;
 use crate::blocks::{Block, MOST_CELLS};
@@ -67,7 +67,7 @@ pub fn cells_from<'a>(blocks: &'a [Block], start: &Start) -> Cells<'a>
 
 /// The key of a start.
 fn key_of(start: &Start) -> &[u8]
-    ensures { result.now ≡ key_of start.now }
+    ensures { result.now ≡ start_key start.now }
 {
     match start {
         Start::At(key) => key.bytes(),

@@ -20,7 +20,7 @@ use Rattle.nonstop_sql.specs.declared.outcome.Outcome.{Outcome}
 use Rattle.run_record.specs.Headline.{Headline}
 use Rattle.record_text.specs.Summary.{IsSummary}
 use Rattle.script_maker.specs.Making.{made}
-use Rattle.nonstop_sql.specs.Ends.{Ends, EndsOnBytes, EndsOnSource, IsCut, IsDone, IsRun, IsSaid, KeepsRecord, LeavesCollectors, Makes, OnScript, Outside, ReadsScript, Spelled, SpellsNone, WasRead, Writes, number_of, refusal_of}
+use Rattle.nonstop_sql.specs.Ends.{Ends, EndsOnBytes, EndsOnSource, IsCut, IsDone, IsRun, IsSaid, KeepsRecord, LeavesCollectors, Makes, OnScript, Outside, ReadsScript, SpellsSuch, SpellsNone, WasRead, Writes, number_of, refusal_of}
 
 abbrev pub bare : ℕ → Outcome
 bare status = record { status = status; kept = None; fault = None }
@@ -217,7 +217,7 @@ status_of_bytes o (inr (inr (inl e))) = (omega (arith, e), (λ h. omega (arith, 
 status_of_bytes o (inr (inr (inr e))) = (omega (arith, e), (λ h. omega (arith, e, h)), (λ h. omega (arith, e, h)))
 
 -- the script that was read is the one that the source's bytes spell
-was_read : (left : Option (List ℕ)) (bytes : List ℕ) (P : Script → Type 0) → IfSome left (λ l. bytes ≡ front_of l) → Spelled bytes P → WasRead left P
+was_read : (left : Option (List ℕ)) (bytes : List ℕ) (P : Script → Type 0) → IfSome left (λ l. bytes ≡ front_of l) → SpellsSuch bytes P → WasRead left P
 was_read None bytes P front spelled = (bytes, tt, spelled)
 was_read (Some l) bytes P front spelled =
     let within : length (front_of l) ≤ 4194304 = subst (λ b. length b ≤ 4194304) front spelled.1.within in

@@ -26,7 +26,7 @@ use Rattle.partition_state.specs.History.{IsLegal}
 use Rattle.partition_state.specs.State.{State, opening}
 use Rattle.partition_state.specs.Step.{answered, step}
 use Rattle.partition_state.specs.declared.entries.Entry.{Entry}
-use Rattle.partition_laws.specs.Moves.{Move, Stays, Enters, Starts, Opens, Closes, Advances, Inserts, Locks, Prepares, Commits, Undoes, Fits, Moved, by, gives_row, handled_by, has_effect, said}
+use Rattle.partition_laws.specs.Moves.{Move, Stays, Enters, Starts, Opens, Closes, Advances, Inserts, Locks, Prepares, Commits, Undoes, IsMoveOf, Moved, by, gives_row, handled_by, has_effect, said}
 use Rattle.partition_laws.proofs.Moving.{moved}
 use Rattle.partition_laws.proofs.RowLaws.{fixed-step}
 use Rattle.partition_laws.proofs.Stepped.{replied-new}
@@ -125,7 +125,7 @@ done-few r is = let none : Few reply.Done = omega arith in subst Few (sym is) no
 floor-few : (r : Reply) (floor : ℕ) → r ≡ reply.Floor floor → Few r
 floor-few r floor is = let none : Few (reply.Floor floor) = omega arith in subst Few (sym is) none
 
-move-few : (p : State) (t : TxnName) (ask : Ask) (r : Reply) (m : Move) → AreLimits p.limits → Fits p t ask r m → Few r
+move-few : (p : State) (t : TxnName) (ask : Ask) (r : Reply) (m : Move) → AreLimits p.limits → IsMoveOf p t ask r m → Few r
 move-few p t ask r Stays are (inl f) = no_effect-few r f.0
 move-few p t ask r Stays are (inr f) = floor-few r f.0 f.2
 move-few p t ask r Enters are f = no_effect-few r f.0

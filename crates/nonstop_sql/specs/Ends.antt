@@ -79,8 +79,8 @@ abbrev pub SpellsNone : List ℕ → Type 0
 SpellsNone bytes = (script : Script) → Spells bytes script → ⊥
 
 -- the bytes spell a script of which this holds
-abbrev pub Spelled : List ℕ → (Script → Type 0) → Type 0
-Spelled bytes P = (script : Script) × Spells bytes script × P script
+abbrev pub SpellsSuch : List ℕ → (Script → Type 0) → Type 0
+SpellsSuch bytes P = (script : Script) × Spells bytes script × P script
 
 -- what was made of a script is written: all of it, or a front of it before a write failed
 pub record Writes (asked : Command) (out : Outside) (script : Script) (taken taken' : Option (List ℕ)) (faults faults' : ℕ) (o : Outcome) : Type 0 where
@@ -101,8 +101,8 @@ pub record EndsOnBytes (asked : Command) (out : Outside) (bytes : List ℕ) (tak
   pub refuses : SpellsNone bytes → (o.status ≡ 1) ⊎ (o.status ≡ 5)
   pub failed : o.status ≡ 4 → Rose faults faults'
   pub unwritten : o.status ≢ 0 → o.status ≢ 4 → Keeps taken taken'
-  pub done : o.status ≡ 0 → Spelled bytes (IsDone asked out taken taken' o.kept)
-  pub cut : o.status ≡ 4 → Spelled bytes (IsCut asked out taken taken')
+  pub done : o.status ≡ 0 → SpellsSuch bytes (IsDone asked out taken taken' o.kept)
+  pub cut : o.status ≡ 4 → SpellsSuch bytes (IsCut asked out taken taken')
 
 -- bytes that a source told: refused just where they spell no script, unless a read failed or memory ran out; done only once all of them were read,
 -- and refused once they were read to their end, or one byte beyond the most that a script has
@@ -114,7 +114,7 @@ pub record EndsOnSource (bytes : List ℕ) (left' : Option (List ℕ)) (o : Outc
 
 -- a script was read of which this holds: it is the one that the bytes spell that the source had left, if it told them
 abbrev pub WasRead : Option (List ℕ) → (Script → Type 0) → Type 0
-WasRead left P = (bytes : List ℕ) × IfSome left (λ told. told ≡ bytes) × Spelled bytes P
+WasRead left P = (bytes : List ℕ) × IfSome left (λ told. told ≡ bytes) × SpellsSuch bytes P
 
 -- the number that a command makes its script from; the others read theirs
 abbrev pub number_of : Command → Option ℕ

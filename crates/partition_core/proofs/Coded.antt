@@ -7,7 +7,7 @@ use Rattle.sql_base.specs.Tables.{AreSets}
 use Rattle.sql_base.specs.declared.expressions.Expr.{Expr}
 use Rattle.sql_base.specs.declared.statements.Assign.{Assign}
 use Rattle.sql_base.specs.declared.tables.TableDef.{TableDef}
-use Rattle.predicate_codes.specs.Decoding.{filter_of, predicate_of}
+use Rattle.predicate_codes.specs.Decoding.{filter_of, predicate_in}
 use Rattle.predicate_codes.specs.SetLists.{sets_of}
 use Rattle.predicate_codes.proofs.Exact.{one_expression, reads_predicates}
 use Rattle.predicate_codes.proofs.ExactSets.{reads_sets}
@@ -23,9 +23,9 @@ predicate-read table code kind e is same truth =
 
 -- a verified expression of another kind isn't
 pub predicate-other : (table : TableDef) (code : List ℕ) (kind : Kind) (e : Expr) → IsExpr table kind e → code ≡ code_of e → (kind ≡ OfTruth → ⊥) → filter_of table (Some code) ≡ None
-predicate-other table code kind e is same other = at (predicate_of table code) refl
+predicate-other table code kind e is same other = at (predicate_in table code) refl
   where
-    at : (o : Option Expr) → predicate_of table code ≡ o → option_map Some o ≡ None
+    at : (o : Option Expr) → predicate_in table code ≡ o → option_map Some o ≡ None
     at None told = refl
     at (Some f) told =
         let read = (reads_predicates table code f).0 told in
@@ -36,9 +36,9 @@ predicate-other table code kind e is same other = at (predicate_of table code) r
 
 -- nor is what is no code
 pub predicate-none : (table : TableDef) (code : List ℕ) → ((kind : Kind) (e : Expr) → IsExpr table kind e → code ≡ code_of e → ⊥) → filter_of table (Some code) ≡ None
-predicate-none table code bad = at (predicate_of table code) refl
+predicate-none table code bad = at (predicate_in table code) refl
   where
-    at : (o : Option Expr) → predicate_of table code ≡ o → option_map Some o ≡ None
+    at : (o : Option Expr) → predicate_in table code ≡ o → option_map Some o ≡ None
     at None told = refl
     at (Some f) told = let read = (reads_predicates table code f).0 told in absurd (bad OfTruth f read.0 read.1)
 

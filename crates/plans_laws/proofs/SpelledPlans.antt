@@ -28,7 +28,7 @@ use Rattle.session_grammar.specs.declared.plans.Plan.TheVariants.{Singles, Subse
 use Rattle.session_grammar.specs.declared.plans.Sent.{Sent}
 use Rattle.session_laws.proofs.Within.{Rise, plans_rise}
 use Rattle.run_record.specs.Openings.{openings}
-use Rattle.plans_laws.specs.Asked.{IsSpelled, PlansSpelled}
+use Rattle.plans_laws.specs.Asked.{HasSpelling, PlansSpelled}
 use Rattle.plans_laws.specs.Scaffold.Fits.{CarriesFilter, CarriesSets, Fits}
 use Rattle.plans_laws.specs.Spelled.{Spelled}
 use Rattle.plans_laws.proofs.Plans.{FitsThere, plans_fit}
@@ -205,7 +205,7 @@ begun-plan (Singles sents) h = all-weaker IsAlone IsBegun (λ sent is. or_right 
 
 module _ (script : Script) (is : IsScript script) where
   each-spelled : (sents : List Sent) → ((part : ℕ) (p : State) → slice_get (openings script) part ≡ Some p → AllByRecursion (FitsThere p part) sents)
-      → AllByRecursion (λ (sent : Sent). sent.part < parts_of script.tables) sents → AllByRecursion IsBegun sents → AllByRecursion (IsSpelled (parts_of script.tables)) sents
+      → AllByRecursion (λ (sent : Sent). sent.part < parts_of script.tables) sents → AllByRecursion IsBegun sents → AllByRecursion (HasSpelling (parts_of script.tables)) sents
   each-spelled [] fits within begun = tt
   each-spelled (sent ∷ sents) fits within begun =
       let o = part-opens script sent.part within.0 in (
@@ -213,7 +213,7 @@ module _ (script : Script) (is : IsScript script) where
         each-spelled sents (λ part p e. (fits part p e).1) within.1 begun.1,
       )
 
-  pub statement-spelled : (session : ℕ) (statement : Statement) → IsStatement script.tables statement → AllByRecursion (IsSpelled (parts_of script.tables)) (sents_of (plan_of (asker script session) statement))
+  pub statement-spelled : (session : ℕ) (statement : Statement) → IsStatement script.tables statement → AllByRecursion (HasSpelling (parts_of script.tables)) (sents_of (plan_of (asker script session) statement))
   statement-spelled session statement well =
       let r = asker script session in
       let sents = sents_of (plan_of r statement) in

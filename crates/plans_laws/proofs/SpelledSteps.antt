@@ -30,7 +30,7 @@ use Rattle.dp_messages.specs.declared.requests.Envelope.{Envelope}
 use Rattle.partition_state.specs.State.{Opener, State, opener_of, with_live}
 use Rattle.partition_state.specs.Step.{answered, kept_key, mode_of, noted, prepared, step, with_granule}
 use Rattle.partition_state.specs.declared.lives.Live.{Live}
-use Rattle.partition_laws.specs.Moves.{Move, Stays, Enters, Starts, Opens, Closes, Advances, Inserts, Locks, Prepares, Commits, Undoes, Fits, Moved, after, after_quantum, by, granule_of, handled_by, x_lock}
+use Rattle.partition_laws.specs.Moves.{Move, Stays, Enters, Starts, Opens, Closes, Advances, Inserts, Locks, Prepares, Commits, Undoes, IsMoveOf, Moved, after, after_quantum, by, granule_of, handled_by, x_lock}
 use Rattle.partition_laws.proofs.CellMoves.{all-inserted, cell_key, keys-after}
 use Rattle.partition_laws.proofs.KeepingMoves.{handled_in}
 use Rattle.sql_base.proofs.ListSearches.{all-filter_map, all-passing, find-some}
@@ -190,7 +190,7 @@ module _ (p : State) (h : Spelled p) (t : TxnName) (named : IsNamed t) where
     high = eight;
   }
 
-  parts-after : (a : Ask) (reply : Reply) (move : Move) → IsAsk a → Fits p t a reply move → PartsSpelled (after p t move)
+  parts-after : (a : Ask) (reply : Reply) (move : Move) → IsAsk a → IsMoveOf p t a reply move → PartsSpelled (after p t move)
   parts-after a reply Stays is f = h.parts
   parts-after a reply Enters is f = live-spelled
   parts-after a reply (Starts block granule) is f = begun-parts block granule a is f.2.1 f.2.2

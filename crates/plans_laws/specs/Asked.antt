@@ -11,11 +11,11 @@ use Rattle.session_grammar.specs.Plans.{plan_of, sents_of}
 use Rattle.session_grammar.specs.declared.plans.Sent.{Sent}
 
 -- a request that has a spelling, of one of the partitions
-abbrev pub IsSpelled : ℕ → Sent → Type 0
-IsSpelled parts sent = IsAsk sent.ask × (sent.part < parts)
+abbrev pub HasSpelling : ℕ → Sent → Type 0
+HasSpelling parts sent = IsAsk sent.ask × (sent.part < parts)
 
 -- each request of a statement of the script
 abbrev pub PlansSpelled : Type 0
 PlansSpelled =
     (script : Script) (session : ℕ) (work : Work) (statement : Statement) → IsScript script → Lies 1 (length script.sessions) session → Contains (works_of script session) work → Contains work.statements statement
-    → AllByRecursion (IsSpelled (parts_of script.tables)) (sents_of (plan_of (asker script session) statement))
+    → AllByRecursion (HasSpelling (parts_of script.tables)) (sents_of (plan_of (asker script session) statement))

@@ -8,7 +8,7 @@ use Rattle.sql_base.specs.Kinds.{Kind, OfNumber, OfText, OfTruth, IsExpr}
 use Rattle.sql_base.specs.Tables.{IsFilter}
 use Rattle.sql_base.specs.declared.expressions.Expr.{Expr}
 use Rattle.sql_base.specs.declared.tables.TableDef.{TableDef}
-use Rattle.predicate_codes.specs.Decoding.{Operand, decoded, read_code, expr_of, if_truth, predicate_of, filter_of}
+use Rattle.predicate_codes.specs.Decoding.{Operand, decoded, read_code, expr_of, if_truth, predicate_in, filter_of}
 use Rattle.predicate_codes.specs.Laws.{OneExpression, ReadsCodes, ReadsPredicates, ReadsFilters}
 use Rattle.predicate_codes.proofs.Complete.{operand_of, decoded-code}
 use Rattle.predicate_codes.proofs.Sound.{decoded-some}
@@ -59,23 +59,23 @@ if_truth-some (OfText width) tree e is = absurd (cc)
 pub reads_predicates : ReadsPredicates
 reads_predicates table code e = (there, back)
   where
-    there : predicate_of table code ≡ Some e → IsExpr table OfTruth e × (code ≡ code_of e)
+    there : predicate_in table code ≡ Some e → IsExpr table OfTruth e × (code ≡ code_of e)
     there read = option_and_then_some (λ (o : Operand). if_truth o.kind o.tree) (read_code table code) e read (λ o at truth.
         let is = read_code-some table code o at in
         let parts = if_truth-some o.kind o.tree e truth in
         subst (λ (t : Expr). IsExpr table OfTruth t × (code ≡ code_of t)) parts.1 (subst (λ kind. IsExpr table kind o.tree) parts.0 is.0, is.1))
 
-    back : IsExpr table OfTruth e × (code ≡ code_of e) → predicate_of table code ≡ Some e
-    back is = ap (predicate_of table) is.1 ∙ ap (option_and_then (λ (o : Operand). if_truth o.kind o.tree)) (read_code-code table OfTruth e is.0)
+    back : IsExpr table OfTruth e × (code ≡ code_of e) → predicate_in table code ≡ Some e
+    back is = ap (predicate_in table) is.1 ∙ ap (option_and_then (λ (o : Operand). if_truth o.kind o.tree)) (read_code-code table OfTruth e is.0)
 
 filter-some : (table : TableDef) (code : Option (List ℕ)) (filter : Option Expr) → filter_of table code ≡ Some filter → IsFilter table filter × (code ≡ option_map code_of filter)
 filter-some table None None e = (tt, refl)
 filter-some table None (Some f) e = absurd (cc)
 filter-some table (Some code) None e =
-    let parts = option_map-some (λ (f : Expr). Some f) (predicate_of table code) None e in
+    let parts = option_map-some (λ (f : Expr). Some f) (predicate_in table code) None e in
     absurd (let no : Some parts.0 ≡ None = parts.2 in cc)
 filter-some table (Some code) (Some f) e =
-    let parts = option_map-some (λ (f : Expr). Some f) (predicate_of table code) (Some f) e in
+    let parts = option_map-some (λ (f : Expr). Some f) (predicate_in table code) (Some f) e in
     let is = (reads_predicates table code f).0 (parts.1 ∙ parts.2) in
     (is.0, ap Some is.1)
 

@@ -5,7 +5,7 @@ use Rattle.sql_base.specs.declared.expressions.Expr.{roll-Expr}
 use Rattle.sql_base.specs.declared.expressions.Expr.TheOpen.{Number, Column, Compare, And}
 use Rattle.sql_base.specs.declared.tables.ColumnKind.TheVariants.{Int}
 use Rattle.sql_base.specs.declared.tables.TableDef.{TableDef}
-use Rattle.predicate_codes.specs.Decoding.{expr_of, filter_of, predicate_of, read_code}
+use Rattle.predicate_codes.specs.Decoding.{expr_of, filter_of, predicate_in, read_code}
 use Rattle.predicate_codes.specs.SetLists.{sets_of}
 
 -- t (k INT, v INT, PRIMARY KEY (k))
@@ -30,7 +30,7 @@ unfolding read_code
 below_seven_is = refl
 
 -- one byte more, no byte, a number where a truth value is asked for, a column too many
-longer : predicate_of two_numbers (3 ∷ 0 ∷ 3 ∷ 1 ∷ 0x22 ∷ 0 ∷ []) ≡ None
+longer : predicate_in two_numbers (3 ∷ 0 ∷ 3 ∷ 1 ∷ 0x22 ∷ 0 ∷ []) ≡ None
 unfolding read_code
 longer = refl
 
@@ -38,7 +38,7 @@ empty : expr_of two_numbers [] ≡ None
 unfolding read_code
 empty = refl
 
-no_truth : predicate_of two_numbers seven ≡ None
+no_truth : predicate_in two_numbers seven ≡ None
 unfolding read_code
 no_truth = refl
 
@@ -47,11 +47,11 @@ unfolding read_code
 no_column = refl
 
 -- k < v AND v < k, and with a length that is one too short
-both_ways : predicate_of two_numbers (3 ∷ 0 ∷ 3 ∷ 1 ∷ 0x22 ∷ 0x30 ∷ 0 ∷ 5 ∷ 3 ∷ 1 ∷ 3 ∷ 0 ∷ 0x22 ∷ []) ≡ Some (roll-Expr (And (roll-Expr (Compare Lt (roll-Expr (Column 0)) (roll-Expr (Column 1)))) (roll-Expr (Compare Lt (roll-Expr (Column 1)) (roll-Expr (Column 0))))))
+both_ways : predicate_in two_numbers (3 ∷ 0 ∷ 3 ∷ 1 ∷ 0x22 ∷ 0x30 ∷ 0 ∷ 5 ∷ 3 ∷ 1 ∷ 3 ∷ 0 ∷ 0x22 ∷ []) ≡ Some (roll-Expr (And (roll-Expr (Compare Lt (roll-Expr (Column 0)) (roll-Expr (Column 1)))) (roll-Expr (Compare Lt (roll-Expr (Column 1)) (roll-Expr (Column 0))))))
 unfolding read_code
 both_ways = refl
 
-cut_short : predicate_of two_numbers (3 ∷ 0 ∷ 3 ∷ 1 ∷ 0x22 ∷ 0x30 ∷ 0 ∷ 4 ∷ 3 ∷ 1 ∷ 3 ∷ 0 ∷ 0x22 ∷ []) ≡ None
+cut_short : predicate_in two_numbers (3 ∷ 0 ∷ 3 ∷ 1 ∷ 0x22 ∷ 0x30 ∷ 0 ∷ 4 ∷ 3 ∷ 1 ∷ 3 ∷ 0 ∷ 0x22 ∷ []) ≡ None
 unfolding read_code
 cut_short = refl
 

@@ -141,10 +141,10 @@ if_truth OfNumber tree = None
 if_truth (OfText width) tree = None
 
 -- the truth value whose code the bytes are
-abbrev pub predicate_of : TableDef → List ℕ → Option Expr
-predicate_of table code = option_and_then (λ (o : Operand). if_truth o.kind o.tree) (read_code table code)
+abbrev pub predicate_in : TableDef → List ℕ → Option Expr
+predicate_in table code = option_and_then (λ (o : Operand). if_truth o.kind o.tree) (read_code table code)
 
 -- the filter for which a code stands
 abbrev pub filter_of : TableDef → Option (List ℕ) → Option (Option Expr)
 filter_of table None = Some None
-filter_of table (Some code) = option_map Some (predicate_of table code)
+filter_of table (Some code) = option_map Some (predicate_in table code)

@@ -9,7 +9,7 @@ use Rattle.sql_base.specs.Tables.{AreSets, IsFilter}
 use Rattle.sql_base.specs.declared.expressions.Expr.{Expr}
 use Rattle.sql_base.specs.declared.statements.Assign.{Assign}
 use Rattle.sql_base.specs.declared.tables.TableDef.{TableDef}
-use Rattle.predicate_codes.specs.Decoding.{expr_of, predicate_of, filter_of}
+use Rattle.predicate_codes.specs.Decoding.{expr_of, predicate_in, filter_of}
 use Rattle.predicate_codes.specs.SetLists.{sets_of}
 
 -- bytes are read as an expression exactly where they are its code, and it is well typed and within the limits
@@ -21,7 +21,7 @@ ReadsCodes =
 abbrev pub ReadsPredicates : Type 0
 ReadsPredicates =
     (table : TableDef) (code : List ℕ) (e : Expr)
-    → (predicate_of table code ≡ Some e) ↔ (IsExpr table OfTruth e × (code ≡ code_of e))
+    → (predicate_in table code ≡ Some e) ↔ (IsExpr table OfTruth e × (code ≡ code_of e))
 
 -- the same of SET lists
 abbrev pub ReadsSets : Type 0

@@ -12,7 +12,7 @@ use Rattle.quantum_core.specs.declared.works.Doing.TheVariants.{Read, Update, De
 use Rattle.quantum_core.specs.declared.works.SetWork.{SetWork}
 use Rattle.quantum_core.specs.declared.verdicts.Verdict.{Verdict}
 use Rattle.quantum_core.specs.declared.verdicts.Verdict.TheVariants.{Faulty, PassedOver}
-use Rattle.quantum_runner.specs.Scaffold.Works.{bar_to_change, effect_on, predicate_of}
+use Rattle.quantum_runner.specs.Scaffold.Works.{bar_to_change, effect_on, met_by}
 
 -- the verdict by whether the predicate is met
 abbrev pub by_predicate : Verdict → Result Bool Fault → Verdict
@@ -20,7 +20,7 @@ by_predicate met (Ok true) = met
 by_predicate met (Ok false) = PassedOver
 by_predicate met (Err fault) = Faulty fault
 
-pub predicate-told : (met : Verdict) (o : Outcome) → on_predicate met o ≡ by_predicate met (predicate_of o)
+pub predicate-told : (met : Verdict) (o : Outcome) → on_predicate met o ≡ by_predicate met (met_by o)
 predicate-told met (Err fault) = refl
 predicate-told met (Ok (IsTruth true)) = refl
 predicate-told met (Ok (IsTruth false)) = refl

@@ -8,7 +8,7 @@ ghost use Rattle.sql_base.specs.Val.{filter_val, val};
 ghost use Rattle.sql_base.specs.declared.tables.TableDef.{TableDef};
 ghost use Rattle.constraint_checks.specs.Judging.{tree_of};
 ghost use Rattle.quantum_core.specs.Verdicts.{if_kept, on_new_row};
-ghost use Rattle.quantum_runner.specs.Scaffold.Works.{IsDoing, does_change, doing_in, effect_on, predicate_of};
+ghost use Rattle.quantum_runner.specs.Scaffold.Works.{IsDoing, does_change, doing_in, effect_on, met_by};
 
 use crate::tables::CheckedTable;
 use predicate_runner::{Item, Verified, run};
@@ -62,7 +62,7 @@ impl Work {
     /// Whether a row of the table meets the filter.
     pub fn passes(&self, row: &Row) -> Result<bool, Fault>
         requires { (table : TableDef) × IsFilter table self.now.filter × IsRow table row.now }
-        ensures { result ≡ predicate_of (filter_val self.now.filter row.now) }
+        ensures { result ≡ met_by (filter_val self.now.filter row.now) }
     {
         passes(&self.filter, row)
     }
@@ -95,7 +95,7 @@ impl Work {
 
 fn passes(filter: &Option<Verified>, row: &Row) -> Result<bool, Fault>
     requires { (table : TableDef) × IsFilter table (option_map tree_of filter.now) × IsRow table row.now }
-    ensures { result ≡ predicate_of (filter_val (option_map tree_of filter.now) row.now) }
+    ensures { result ≡ met_by (filter_val (option_map tree_of filter.now) row.now) }
 {
     match filter {
         None => Ok(true),
@@ -105,7 +105,7 @@ fn passes(filter: &Option<Verified>, row: &Row) -> Result<bool, Fault>
 
 fn is_true(code: &Verified, row: &Row) -> Result<bool, Fault>
     requires { (table : TableDef) × (kind : Kind) × IsExpr table kind code.now.tree × IsRow table row.now }
-    ensures { result ≡ predicate_of (val code.now.tree row.now) }
+    ensures { result ≡ met_by (val code.now.tree row.now) }
 {
     match run(code, row) {
         Ok(Item::Truth(truth)) => Ok(truth),

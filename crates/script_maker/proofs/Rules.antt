@@ -29,7 +29,7 @@ use Rattle.sql_base.specs.declared.expressions.Expr.TheOpen.{Expr-F, And, Arith,
 use Rattle.sql_base.specs.declared.expressions.Expr.TheVariants as expr
 use Rattle.sql_base.specs.declared.statements.Statement.{Statement}
 use Rattle.sql_base.specs.declared.tables.ColumnKind.TheVariants.{Int}
-use Rattle.script_maker.specs.Making.{account, accounts, after, compared, draw, hundred_from, in_line, loaded, made, one_more, statement, statement_of, work, works}
+use Rattle.script_maker.specs.Making.{account, accounts, after, compared_with, draw, hundred_from, in_line, loaded_account, made, one_more, statement, statement_of_kind, work, works}
 use Rattle.script_maker.proofs.InLine.{each_in_line, length-in_line}
 
 -- ---- expressions
@@ -39,7 +39,7 @@ abbrev raised : Expr
 raised = expr.Arith Add (expr.Column 2) (expr.Number (pos 1))
 
 module _ (A : Type 0) (step : Expr-F A → A) where
-  fold-compared : (column : ℕ) (op : CompareOp) (n : ℕ) → fold-Expr A step (compared column op n) ≡ step (Compare op (step (Column column)) (step (Number (pos n))))
+  fold-compared : (column : ℕ) (op : CompareOp) (n : ℕ) → fold-Expr A step (compared_with column op n) ≡ step (Compare op (step (Column column)) (step (Number (pos n))))
   fold-compared column op n =
       fold-Compare A step op (expr.Column column) (expr.Number (pos n)) ∙ ap (λ a. step (Compare op a (fold-Expr A step (expr.Number (pos n))))) (fold-Column A step column)
       ∙ ap (λ b. step (Compare op (step (Column column)) b)) (fold-Number A step (pos n))
@@ -47,7 +47,7 @@ module _ (A : Type 0) (step : Expr-F A → A) where
   fold-hundred : (n : ℕ) → fold-Expr A step (hundred_from n)
       ≡ step (And (step (Compare Ge (step (Column 0)) (step (Number (pos n))))) (step (Compare Le (step (Column 0)) (step (Number (pos (n + 99)))))))
   fold-hundred n =
-      fold-And A step (compared 0 Ge n) (compared 0 Le (n + 99)) ∙ ap (λ a. step (And a (fold-Expr A step (compared 0 Le (n + 99))))) (fold-compared 0 Ge n)
+      fold-And A step (compared_with 0 Ge n) (compared_with 0 Le (n + 99)) ∙ ap (λ a. step (And a (fold-Expr A step (compared_with 0 Le (n + 99))))) (fold-compared 0 Ge n)
       ∙ ap (λ b. step (And (step (Compare Ge (step (Column 0)) (step (Number (pos n))))) b)) (fold-compared 0 Le (n + 99))
 
   fold-raised : fold-Expr A step raised ≡ step (Arith Add (step (Column 2)) (step (Number (pos 1))))
@@ -58,7 +58,7 @@ module _ (A : Type 0) (step : Expr-F A → A) where
 fits : (n : ℕ) → n < 2 ^ 63 → in_i64 (pos n) ≡ true
 fits n small = lt-ltb n (2 ^ 63) small
 
-compared_is : (column : ℕ) (op : CompareOp) (n : ℕ) → slice_get (kinds accounts) column ≡ Some Int → n < 2 ^ 63 → IsExpr accounts OfTruth (compared column op n)
+compared_is : (column : ℕ) (op : CompareOp) (n : ℕ) → slice_get (kinds accounts) column ≡ Some Int → n < 2 ^ 63 → IsExpr accounts OfTruth (compared_with column op n)
 compared_is column op n there small = record {
   typed = fold-compared (Option Kind) (kind_step accounts) column op n ∙ rw (there, fits n small) refl;
   depth = rw (fold-compared ℕ depth_step column op n) (lit≤ tt);
@@ -124,7 +124,7 @@ at_least o = Ok (IsTruth (is_ge o))
 above : (n : ℕ) → int_cmp (pos (suc n)) (pos 0) ≡ Greater
 above n = sym (int_cmp_is (pos (suc n)) (pos 0) Greater (omega (arith, ints)))
 
-check_holds : (number letter balance : ℕ) → val (compared 2 Ge 0) (account number letter balance) ≡ Ok (IsTruth true)
+check_holds : (number letter balance : ℕ) → val (compared_with 2 Ge 0) (account number letter balance) ≡ Ok (IsTruth true)
 check_holds number letter zero = fold-compared Outcome (val_step (account number letter zero)) 2 Ge 0
 check_holds number letter (suc balance) = fold-compared Outcome (val_step (account number letter (suc balance))) 2 Ge 0 ∙ ap at_least (above balance)
 
@@ -138,24 +138,24 @@ rising letter balance first zero small = tt
 rising letter balance first (suc zero) small = tt
 rising letter balance first (suc (suc count)) small = (int_keys-rise first (first + 1) (omega arith) (omega (arith, small)), rising letter balance (first + 1) (suc count) (omega (arith, small)))
 
-loaded_rise : (s : ℕ) → Rise (map (key_of accounts) (in_line 2 loaded 1000 s))
+loaded_rise : (s : ℕ) → Rise (map (key_of accounts) (in_line 2 loaded_account 1000 s))
 unfolding in_line
 loaded_rise s = rising (λ i. 65 + draw 1 26 (after (2 * i) s)) (λ i. draw 2 1000 (after (2 * i) s)) 0 1000 (omega arith)
 
 drawn_below : (place n s : ℕ) → 0 < n → draw place n s < n
 drawn_below place n s some = mod_below _ n some
 
-loaded_is : (number s : ℕ) → number < 1000 → IsRow accounts (loaded number s)
+loaded_is : (number s : ℕ) → number < 1000 → IsRow accounts (loaded_account number s)
 loaded_is number s small =
     account_is number (65 + draw 1 26 s) (draw 2 1000 s) (omega (arith, small)) (omega arith) (omega (arith, drawn_below 1 26 s (lit≤ tt))) (omega (arith, drawn_below 2 1000 s (lit≤ tt)))
 
-is_load : (s : ℕ) → IsLoad (accounts ∷ []) (record { table = 0; rows = in_line 2 loaded 1000 s })
+is_load : (s : ℕ) → IsLoad (accounts ∷ []) (record { table = 0; rows = in_line 2 loaded_account 1000 s })
 is_load s = (
   accounts,
   refl,
-  omega (arith, length-in_line 2 loaded 1000 s),
-  (each_in_line (IsRow accounts) 2 loaded 1000 s (λ i t lt. loaded_is i t lt), loaded_rise s),
-  each_in_line (λ row. first_failing accounts.checks row ≡ None) 2 loaded 1000 s (λ i t lt. no_debt i (65 + draw 1 26 t) (draw 2 1000 t)),
+  omega (arith, length-in_line 2 loaded_account 1000 s),
+  (each_in_line (IsRow accounts) 2 loaded_account 1000 s (λ i t lt. loaded_is i t lt), loaded_rise s),
+  each_in_line (λ row. first_failing accounts.checks row ≡ None) 2 loaded_account 1000 s (λ i t lt. no_debt i (65 + draw 1 26 t) (draw 2 1000 t)),
 )
 
 -- ---- statements and works
@@ -165,7 +165,7 @@ either : (b : Bool) (x y : Statement) → IsStatement (accounts ∷ []) x → Is
 either true x y h k = h
 either false x y h k = k
 
-suits : (kind n key : ℕ) → n < 900 → key < 2 ^ 63 → IsStatement (accounts ∷ []) (statement_of kind n key)
+suits : (kind n key : ℕ) → n < 900 → key < 2 ^ 63 → IsStatement (accounts ∷ []) (statement_of_kind kind n key)
 suits kind n key small fits_key =
     either (kind == 0) _ _ (accounts, refl, (record { some = lit≤ tt; within = (lit≤ tt, (lit≤ tt, tt)); differ = refl }, hundred_is n small))
     (either (kind == 1) _ _ (accounts, refl, (sets_are, hundred_is n small, tt))

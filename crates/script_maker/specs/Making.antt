@@ -33,12 +33,12 @@ after zero state = state
 after (suc count) state = next_state (after count state)
 
 -- what a draw below n shows that went on to this state
-abbrev pub shown : ℕ → ℕ → ℕ
-shown n state = state / 2 ^ 33 % n
+abbrev pub shown_below : ℕ → ℕ → ℕ
+shown_below n state = state / 2 ^ 33 % n
 
 -- what the draw of this place behind a state shows, the first in place 1
 abbrev pub draw : ℕ → ℕ → ℕ → ℕ
-draw place n state = shown n (after place state)
+draw place n state = shown_below n (after place state)
 
 -- so many parts, numbered from 0, each with as many draws of its own behind those of the parts before it
 unfoldable pub in_line : {A : Type 0} → ℕ → (ℕ → ℕ → A) → ℕ → ℕ → List A
@@ -46,9 +46,9 @@ in_line draws part count state = map (λ i. part i (after (draws * i) state)) (r
 
 -- ---- the table and its records
 
--- a column compared with a number
-abbrev pub compared : ℕ → CompareOp → ℕ → Expr
-compared column op n = expr.Compare op (expr.Column column) (expr.Number (pos n))
+-- a column compared_with with a number
+abbrev pub compared_with : ℕ → CompareOp → ℕ → Expr
+compared_with column op n = expr.Compare op (expr.Column column) (expr.Number (pos n))
 
 abbrev pub column : List ℕ → ColumnKind → Column
 column name kind = record { name = name; kind = kind }
@@ -59,7 +59,7 @@ accounts = record {
   name = codes "acct";
   columns = column (codes "no") Int ∷ column (codes "own") (Char 4) ∷ column (codes "bal") Int ∷ [];
   key = 0 ∷ [];
-  checks = compared 2 Ge 0 ∷ [];
+  checks = compared_with 2 Ge 0 ∷ [];
   firsts = (value.Int (pos 400) ∷ []) ∷ (value.Int (pos 800) ∷ []) ∷ [];
 }
 
@@ -68,14 +68,14 @@ abbrev pub account : ℕ → ℕ → ℕ → List Value
 account number letter balance = value.Int (pos number) ∷ value.Text (padded 4 (letter ∷ [])) ∷ value.Int (pos balance) ∷ []
 
 -- a record of the LOAD: it draws its letter, A to Z, and then its balance
-abbrev pub loaded : ℕ → ℕ → List Value
-loaded number state = account number (65 + draw 1 26 state) (draw 2 1000 state)
+abbrev pub loaded_account : ℕ → ℕ → List Value
+loaded_account number state = account number (65 + draw 1 26 state) (draw 2 1000 state)
 
 -- ---- statements and works
 
 -- no >= a AND no <= a + 99
 abbrev pub hundred_from : ℕ → Expr
-hundred_from a = expr.And (compared 0 Ge a) (compared 0 Le (a + 99))
+hundred_from a = expr.And (compared_with 0 Ge a) (compared_with 0 Le (a + 99))
 
 -- bal = bal + 1
 abbrev pub one_more : Assign
@@ -91,20 +91,20 @@ raise_balances a = Update 0 (one_more ∷ []) (Some (hundred_from a)) Repeatable
 
 -- SELECT no, own FROM acct WHERE bal >= 900 FOR STABLE ACCESS
 abbrev pub select_owners : Statement
-select_owners = Select 0 (0 ∷ 1 ∷ []) (Some (compared 2 Ge 900)) Stable
+select_owners = Select 0 (0 ∷ 1 ∷ []) (Some (compared_with 2 Ge 900)) Stable
 
 -- INSERT INTO acct VALUES (key, 'N', a)
 abbrev pub insert_account : ℕ → ℕ → Statement
 insert_account key a = Insert 0 (account key 78 a)
 
 -- the statement of a kind from 0 to 3
-abbrev pub statement_of : ℕ → ℕ → ℕ → Statement
-statement_of kind a key =
+abbrev pub statement_of_kind : ℕ → ℕ → ℕ → Statement
+statement_of_kind kind a key =
     if kind == 0 then select_balances a else (if kind == 1 then raise_balances a else (if kind == 2 then select_owners else insert_account key a))
 
 -- a statement draws its kind, and then its number
 abbrev pub statement : ℕ → ℕ → ℕ → ℕ → Statement
-statement session work place state = statement_of (draw 1 4 state) (draw 2 900 state) (1000 + 100 * session + 10 * work + place)
+statement session work place state = statement_of_kind (draw 1 4 state) (draw 2 900 state) (1000 + 100 * session + 10 * work + place)
 
 -- a work has two statements, and then draws its end: one in eight is ROLLBACK WORK
 abbrev pub work : ℕ → ℕ → ℕ → Work
@@ -124,6 +124,6 @@ abbrev pub made : ℕ → Script
 made number = record {
   limits = limits;
   tables = accounts ∷ [];
-  loads = record { table = 0; rows = in_line 2 loaded 1000 number } ∷ [];
+  loads = record { table = 0; rows = in_line 2 loaded_account 1000 number } ∷ [];
   sessions = in_line 25 works 4 (after 2000 number);
 }

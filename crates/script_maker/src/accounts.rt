@@ -1,6 +1,6 @@
 //! The table of accounts and its records.
 ghost use Rattle.std.specs.Prelude.{◌≡◌, ◌<◌, ◌^◌, IfOk, OnOk, codes};
-ghost use Rattle.script_maker.specs.Making.{account, accounts, after, compared, in_line, loaded};
+ghost use Rattle.script_maker.specs.Making.{account, accounts, after, compared_with, in_line, loaded_account};
 
 use crate::draws::Draws;
 use sql_base::{
@@ -14,7 +14,7 @@ const LOADED: u32 = 1000;
 
 /// A column compared with a number.
 pub fn compared(alloc: Global, column: u8, op: CompareOp, number: u32) -> Result<Expr, NoMemory>
-    ensures { IfOk result (λ e. e ≡ compared column op number) }
+    ensures { IfOk result (λ e. e ≡ compared_with column op number) }
 {
     Ok(Expr::Compare(
         op,
@@ -39,7 +39,7 @@ pub fn account(alloc: Global, number: u32, letter: u8, balance: u32) -> Result<R
 
 #[tactic(auto, unfolding(crate::specs::Making::after))]
 fn loaded(alloc: Global, draws: &mut Draws, number: u32) -> Result<Row, NoMemory>
-    ensures row { IfOk result (λ row. row ≡ loaded number draws.old.state) }
+    ensures row { IfOk result (λ row. row ≡ loaded_account number draws.old.state) }
     ensures drawn { OnOk result (draws.new.state ≡ after 2 draws.old.state) }
 {
     let letter = 65 + draws.draw(26) as u8;
@@ -48,7 +48,7 @@ fn loaded(alloc: Global, draws: &mut Draws, number: u32) -> Result<Row, NoMemory
 }
 
 fn rows(alloc: Global, draws: &mut Draws) -> Result<List<Row>, NoMemory>
-    ensures rows { IfOk result (λ rows. rows ≡ in_line 2 loaded 1000 draws.old.state) }
+    ensures rows { IfOk result (λ rows. rows ≡ in_line 2 loaded_account 1000 draws.old.state) }
     ensures drawn { OnOk result (draws.new.state ≡ after 2000 draws.old.state) }
 {
     let mut rows = List::new(alloc);
@@ -60,7 +60,7 @@ fn rows(alloc: Global, draws: &mut Draws) -> Result<List<Row>, NoMemory>
 
 /// The records that the table begins with.
 pub fn load(alloc: Global, draws: &mut Draws) -> Result<Load, NoMemory>
-    ensures load { IfOk result (λ load. load ≡ record { table = 0; rows = in_line 2 loaded 1000 draws.old.state }) }
+    ensures load { IfOk result (λ load. load ≡ record { table = 0; rows = in_line 2 loaded_account 1000 draws.old.state }) }
     ensures drawn { OnOk result (draws.new.state ≡ after 2000 draws.old.state) }
 {
     Ok(Load {

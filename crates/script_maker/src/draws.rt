@@ -1,6 +1,6 @@
 //! The generator of draws.
 ghost use Rattle.std.specs.Prelude.{◌≡◌, ◌<◌};
-ghost use Rattle.script_maker.specs.Making.{next_state, shown};
+ghost use Rattle.script_maker.specs.Making.{next_state, shown_below};
 
 const MULTIPLIER: u64 = 6364136223846793005;
 
@@ -17,7 +17,7 @@ impl Draws {
     pub fn draw(&mut self, n: u32) -> u32
         requires { 0 < n }
         ensures state { self.new.state ≡ next_state self.old.state }
-        ensures shown { result ≡ shown n self.new.state }
+        ensures shown { result ≡ shown_below n self.new.state }
         ensures below { result < n }
     {
         self.state = self.state.wrapping_mul(MULTIPLIER).wrapping_add(INCREMENT);

@@ -1,6 +1,6 @@
 //! The works of the sessions.
 ghost use Rattle.std.specs.Prelude.{◌≡◌, ◌<◌, ◌≤◌, IfOk, OnOk};
-ghost use Rattle.script_maker.specs.Making.{after, hundred_from, in_line, raise_balances, select_balances, select_owners, statement, statement_of, work, works};
+ghost use Rattle.script_maker.specs.Making.{after, hundred_from, in_line, raise_balances, select_balances, select_owners, statement, statement_of_kind, work, works};
 
 use crate::accounts::{account, compared};
 use crate::draws::Draws;
@@ -81,7 +81,7 @@ fn select_owners(alloc: Global) -> Result<Statement, NoMemory>
 /// The statement of a kind from 0 to 3, for a number; an INSERT is of this key.
 fn statement_of(alloc: Global, kind: u32, number: u32, key: u32) -> Result<Statement, NoMemory>
     requires { number < 900 }
-    ensures { IfOk result (λ s. s ≡ statement_of kind number key) }
+    ensures { IfOk result (λ s. s ≡ statement_of_kind kind number key) }
 {
     match kind {
         0 => select_balances(alloc, number),

@@ -21,7 +21,7 @@ use Rattle.sql_base.specs.declared.scripts.Script.{Script}
 use Rattle.sql_base.specs.declared.statements.Statement.TheVariants as statement
 use Rattle.sql_base.specs.declared.tables.ColumnKind.TheVariants.{Int, Char}
 use Rattle.sql_base.specs.declared.values.Value.TheVariants as value
-use Rattle.statement_draft.specs.Judging.{answer}
+use Rattle.statement_draft.specs.Judging.{judged_script}
 
 -- the first fault of bytes whose words have none
 abbrev first_of : List ℕ → Result (List Token) Place → Option Fault
@@ -121,7 +121,7 @@ second_load = refl
 
 -- a script of two tables, a LOAD and an UPDATE, and what it says
 abbrev answer_of : List ℕ → Result (List Token) Place → Result Script Fault
-answer_of bytes (Ok tokens) = answer (read tokens (length bytes))
+answer_of bytes (Ok tokens) = judged_script (read tokens (length bytes))
 answer_of bytes (Err place) = Err (record { at = 0; reason = Unexpected })
 
 abbrev script_of_bytes : List ℕ → Result Script Fault

@@ -124,8 +124,8 @@ abbrev pub unexpected : Word → ℕ → Draft → Draft
 unexpected w at d = record d { first = noted true Unexpected at (noted (is_wide (number_in w)) NumberTooWide at d.first) }
 
 -- the end of the bytes
-abbrev pub at_the_end : Bool → ℕ → Draft → Draft
-at_the_end whole at d = record d { first = noted (not whole) Unexpected at d.first }
+abbrev pub end_judged : Bool → ℕ → Draft → Draft
+end_judged whole at d = record d { first = noted (not whole) Unexpected at d.first }
 
 -- what a word leaves: what must come behind it, unless it is unexpected, and the draft
 pub record After : Type 0 where
@@ -142,7 +142,7 @@ word_read s d t = let next = advance [] s t.word in after next.taken t (all_ende
 
 -- where no word follows
 unfoldable pub end_read : List Symbol → Draft → ℕ → Draft
-end_read s d at = let f = finish [] s in at_the_end f.whole at (all_ended f.ends d)
+end_read s d at = let f = finish [] s in end_judged f.whole at (all_ended f.ends d)
 
 -- nothing is judged behind an unexpected word
 abbrev pub go_on : Option (List Symbol) → Draft → (List Symbol → Draft) → Draft
@@ -184,5 +184,5 @@ read tokens at = read_from script empty tokens at
 abbrev pub script_of : Draft → Script
 script_of d = record { limits = d.limits; tables = d.tables; loads = d.loads; sessions = d.sessions }
 
-abbrev pub answer : Draft → Result Script Fault
-answer d = elim d.first [ None ↦ Ok (script_of d) | Some fault ↦ Err fault ]
+abbrev pub judged_script : Draft → Result Script Fault
+judged_script d = elim d.first [ None ↦ Ok (script_of d) | Some fault ↦ Err fault ]

@@ -28,11 +28,11 @@ abbrev pub row_begins : ℕ → Draft → Draft
 row_begins at d = record d { row = record d.row { at = at; values = [] } }
 
 -- a text of a LOAD or an INSERT fills its column with blanks, one of a FIRST KEY stays as it is
-abbrev pub filled : RowOf → Option ColumnKind → Value → Value
-filled row_of.FirstKey kind v = v
-filled row_of.Load (Some (Char n)) (value.Text text) = value.Text (padded n text)
-filled row_of.Insert (Some (Char n)) (value.Text text) = value.Text (padded n text)
-filled of kind v = v
+abbrev pub fitted : RowOf → Option ColumnKind → Value → Value
+fitted row_of.FirstKey kind v = v
+fitted row_of.Load (Some (Char n)) (value.Text text) = value.Text (padded n text)
+fitted row_of.Insert (Some (Char n)) (value.Text text) = value.Text (padded n text)
+fitted of kind v = v
 
 -- what is wrong with a literal of a column of this kind; a FIRST KEY has no literal past the key columns
 abbrev pub literal_fault : RowOf → Option ColumnKind → Value → Option Reason
@@ -55,7 +55,7 @@ wrong_with row v = option_and_then (λ kinds. literal_fault row.of (slice_get ki
 abbrev pub literal_came : Value → ℕ → Draft → Draft
 literal_came v at d = record d {
   first = noted_as (wrong_with d.row v) at d.first;
-  row = record d.row { values = d.row.values ++ filled d.row.of (next_kind d.row) v ∷ [] };
+  row = record d.row { values = d.row.values ++ fitted d.row.of (next_kind d.row) v ∷ [] };
 }
 
 -- a number without sign

@@ -169,9 +169,9 @@ set_found table (Some c) at before first =
     (Some c, noted (list_any (nat_eq c) table.key) WrongType at (noted (list_any (nat_eq c) before) Repeated at first))
 
 -- nothing is judged of an unknown table
-abbrev pub set_in : Option TableDef → List ℕ → ℕ → List ℕ → Option Fault → Option ℕ × Option Fault
-set_in None name at before first = (None, first)
-set_in (Some table) name at before first = set_found table (column_named table.columns name) at before first
+abbrev pub column_set : Option TableDef → List ℕ → ℕ → List ℕ → Option Fault → Option ℕ × Option Fault
+column_set None name at before first = (None, first)
+column_set (Some table) name at before first = set_found table (column_named table.columns name) at before first
 
 -- the columns set so far, with one more if there is one
 abbrev pub with_column : Option ℕ → List ℕ → List ℕ
@@ -186,7 +186,7 @@ set_named found at d = record d {
 
 abbrev pub set_came : List ℕ → ℕ → Draft → Draft
 set_came name at d =
-    set_named (set_in (statement_table d) name at d.statement.columns (noted (is_long name) OverLimit at d.first)) at d
+    set_named (column_set (statement_table d) name at d.statement.columns (noted (is_long name) OverLimit at d.first)) at d
 
 -- what is wrong with a value of this kind for a column; nothing where either isn't known
 abbrev pub set_fault : Option ColumnKind → Option Kind → Option Reason
@@ -199,16 +199,16 @@ set_fault column k = None
 abbrev pub set_kind : Draft → Option ColumnKind
 set_kind d = option_and_then (λ c. option_and_then (λ table. option_map (λ column. column.kind) (slice_get table.columns c)) (statement_table d)) d.statement.column
 
-abbrev pub assigned : Option ℕ → Option Expr → List Assign → List Assign
-assigned (Some c) (Some value) sets = sets ++ record { column = c; value = value } ∷ []
-assigned column value sets = sets
+abbrev pub with_assign : Option ℕ → Option Expr → List Assign → List Assign
+with_assign (Some c) (Some value) sets = sets ++ record { column = c; value = value } ∷ []
+with_assign column value sets = sets
 
 -- a whole assignment; its value has 3 bytes before it in the code of the list
 abbrev pub assign_ends : Draft → Draft
 assign_ends d = let e = expression_judged d in let value = whole d.expression in record e {
   first = noted_as (set_fault (set_kind d) value.kind) d.statement.column_at e.first;
   statement = record e.statement {
-    sets = assigned d.statement.column value.tree d.statement.sets;
+    sets = with_assign d.statement.column value.tree d.statement.sets;
     code = bytes_up (d.statement.code + 3 + value.code);
   };
   expression = no_expression 0;
@@ -217,11 +217,11 @@ assign_ends d = let e = expression_judged d in let value = whole d.expression in
 abbrev pub sets_end : Draft → Draft
 sets_end d = record d { first = noted (nat_lt 8192 d.statement.code) OverLimit d.statement.sets_at d.first }
 
-abbrev pub access_of : Word → Access
-access_of w = if is_key w keyword.Browse then access.Browse else (if is_key w keyword.Stable then access.Stable else access.Repeatable)
+abbrev pub access_named : Word → Access
+access_named w = if is_key w keyword.Browse then access.Browse else (if is_key w keyword.Stable then access.Stable else access.Repeatable)
 
 abbrev pub access_came : Word → Draft → Draft
-access_came w d = record d { statement = record d.statement { access = access_of w } }
+access_came w d = record d { statement = record d.statement { access = access_named w } }
 
 abbrev pub mode_came : Word → Draft → Draft
 mode_came w d = record d { statement = record d.statement { mode = if is_key w keyword.Share then mode.S else mode.X } }
@@ -230,17 +230,17 @@ mode_came w d = record d { statement = record d.statement { mode = if is_key w k
 abbrev pub insert_row_ends : Draft → Draft
 insert_row_ends d = record_counted d.statement.at d
 
-abbrev pub statement_of : StatementKind → ℕ → NewStatement → List Value → Statement
-statement_of statement_kind.Select table s row = statement.Select table s.columns s.filter s.access
-statement_of statement_kind.Update table s row = statement.Update table s.sets s.filter s.access
-statement_of statement_kind.Delete table s row = statement.Delete table s.filter s.access
-statement_of statement_kind.Insert table s row = statement.Insert table row
-statement_of statement_kind.Lock table s row = statement.LockTable table s.mode
+abbrev pub statement_drafted : StatementKind → ℕ → NewStatement → List Value → Statement
+statement_drafted statement_kind.Select table s row = statement.Select table s.columns s.filter s.access
+statement_drafted statement_kind.Update table s row = statement.Update table s.sets s.filter s.access
+statement_drafted statement_kind.Delete table s row = statement.Delete table s.filter s.access
+statement_drafted statement_kind.Insert table s row = statement.Insert table row
+statement_drafted statement_kind.Lock table s row = statement.LockTable table s.mode
 
 abbrev pub statement_kept : Option ℕ → Draft → Draft
 statement_kept None d = d
 statement_kept (Some table) d = record d {
-  work = d.work ++ statement_of d.statement.kind table d.statement d.row.values ∷ [];
+  work = d.work ++ statement_drafted d.statement.kind table d.statement d.row.values ∷ [];
   statement = no_statement statement_kind.Lock 0;
   row = record d.row { values = [] };
 }

@@ -1,7 +1,7 @@
 //! A script, word by word.
 ghost use Rattle.std.specs.Prelude.{◌≡◌, IfOk, OnOk, Some, None, if◌then◌else◌};
 ghost use Rattle.statement_draft.specs.Names.{name_in, number_in};
-ghost use Rattle.statement_draft.specs.Judging.{name_came, number_came, part_came, came, ended, all_ended, unexpected, at_the_end, word_read, end_read, read_from, empty, read};
+ghost use Rattle.statement_draft.specs.Judging.{name_came, number_came, part_came, came, ended, all_ended, unexpected, end_judged, word_read, end_read, read_from, empty, read};
 
 use crate::checks::Checks;
 use crate::draft::{Draft, NewRow, RowOf, Scope, StatementKind};
@@ -253,7 +253,7 @@ fn unexpected(word: &Word, at: u32, draft: &mut Draft)
 }
 
 fn at_the_end(whole: bool, at: u32, draft: &mut Draft)
-    ensures { draft.new ≡ at_the_end whole at draft.old }
+    ensures { draft.new ≡ end_judged whole at draft.old }
 {
     draft.first = noted(!whole, Reason::Unexpected, at, draft.first);
 }

@@ -3,7 +3,7 @@ ghost use Rattle.std.specs.Prelude.{◌≡◌, ◌≤◌, ◌^◌, ◌∷◌, �
 ghost use Rattle.std.specs.List.{list_any};
 ghost use Rattle.sql_base.specs.Rows.{kinds, key_of};
 ghost use Rattle.sql_base.specs.OnRows.{first_failing};
-ghost use Rattle.statement_draft.specs.RowEvents.{row_begins, filled, literal_fault, next_kind, wrong_with, literal_came, number_came, negative, negative_came, literal_begins, kinds_of, is_loaded, no_load, load_named, load_came, miscounts, record_counted, is_above, row_faults, row_kept, row_loaded, row_judged, load_row_ends, load_kept, load_ends};
+ghost use Rattle.statement_draft.specs.RowEvents.{row_begins, fitted, literal_fault, next_kind, wrong_with, literal_came, number_came, negative, negative_came, literal_begins, kinds_of, is_loaded, no_load, load_named, load_came, miscounts, record_counted, is_above, row_faults, row_kept, row_loaded, row_judged, load_row_ends, load_kept, load_ends};
 
 use crate::checks::Checks;
 use crate::draft::{Draft, NewLoad, NewRow, RowOf};
@@ -28,7 +28,7 @@ fn filled(
     kind: Option<ColumnKind>,
     value: Value,
 ) -> Result<Value, NoMemory>
-    ensures { IfOk result (λ full. full ≡ filled of kind value) }
+    ensures { IfOk result (λ full. full ≡ fitted of kind value) }
 {
     match (of, kind, value) {
         (RowOf::FirstKey, _, value) => Ok(value),

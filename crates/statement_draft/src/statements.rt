@@ -3,7 +3,7 @@ ghost use Rattle.std.specs.Prelude.{◌≡◌, ◌+◌, ◌*◌, ◌++◌, ◌�
 ghost use Rattle.std.specs.List.{list_any};
 ghost use Rattle.statement_draft.specs.Names.{column_named};
 ghost use Rattle.statement_draft.specs.Expressions.{bytes_up};
-ghost use Rattle.statement_draft.specs.StatementEvents.{session_begins, times, statement_kind_of, no_statement, statement_begins, statement_came, work_begins, scope_of, table_found, table_came, insert_came, selected_came, Selected, select_found, selected_from, places_from, selected, names_judged, select_table_came, where_came, sets_begin, statement_table, set_found, set_in, set_named, set_came, set_fault, set_kind, assigned, assign_ends, sets_end, access_of, access_came, mode_came, insert_row_ends, statement_of, statement_kept, statement_ends, work_ends, session_ends};
+ghost use Rattle.statement_draft.specs.StatementEvents.{session_begins, times, statement_kind_of, no_statement, statement_begins, statement_came, work_begins, scope_of, table_found, table_came, insert_came, selected_came, Selected, select_found, selected_from, places_from, selected, names_judged, select_table_came, where_came, sets_begin, statement_table, set_found, column_set, set_named, set_came, set_fault, set_kind, with_assign, assign_ends, sets_end, access_named, access_came, mode_came, insert_row_ends, statement_drafted, statement_kept, statement_ends, work_ends, session_ends};
 
 use crate::draft::{Draft, NameAt, NewStatement, RowOf, Scope, StatementKind};
 use crate::expressions::expression_ends;
@@ -267,7 +267,7 @@ fn set_found(
     at: u32,
     first: Option<Fault>,
 ) -> (Option<u8>, Option<Fault>)
-    ensures { (result.0, result.1) ≡ set_in (statement_table draft.now) name.now at draft.now.statement.columns first }
+    ensures { (result.0, result.1) ≡ column_set (statement_table draft.now) name.now at draft.now.statement.columns first }
 {
     let Some(place) = draft.statement.table else {
         return (None, first);
@@ -337,7 +337,7 @@ fn assigned(
     value: Option<Expr>,
     sets: &mut List<Assign>,
 ) -> Result<(), NoMemory>
-    ensures { OnOk result (sets.new ≡ assigned column value sets.old) }
+    ensures { OnOk result (sets.new ≡ with_assign column value sets.old) }
 {
     match (column, value) {
         (Some(column), Some(value)) => sets.push(Assign { column, value }),
@@ -377,7 +377,7 @@ pub fn sets_end(draft: &mut Draft)
 }
 
 fn access_of(word: &Word) -> Access
-    ensures { result ≡ access_of word.now }
+    ensures { result ≡ access_named word.now }
 {
     if is_key(word, Keyword::Browse) {
         Access::Browse
@@ -412,7 +412,7 @@ pub fn insert_row_ends(draft: &mut Draft)
 }
 
 fn statement_of(table: u8, statement: NewStatement, row: Row) -> Statement
-    ensures { result ≡ statement_of statement.kind table statement row }
+    ensures { result ≡ statement_drafted statement.kind table statement row }
 {
     let NewStatement {
         kind,

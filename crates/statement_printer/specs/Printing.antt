@@ -48,18 +48,18 @@ with_commas words [] = []
 with_commas words (x ∷ xs) = words x ++ flat_map (λ y. sign signs.Comma ∷ words y) xs
 
 -- ( .. )
-abbrev pub inside : List Word → List Word
-inside words = sign signs.Open ∷ (words ++ sign signs.Close ∷ [])
+abbrev pub in_parentheses : List Word → List Word
+in_parentheses words = sign signs.Open ∷ (words ++ sign signs.Close ∷ [])
 
 -- ---- names and values
 
 -- the name of a column; a place without one has no bytes
-abbrev pub name_of : Option Column → Word
-name_of (Some column) = name column.name
-name_of None = name []
+abbrev pub name_word : Option Column → Word
+name_word (Some column) = name column.name
+name_word None = name []
 
 abbrev pub column_words : List Column → ℕ → List Word
-column_words columns place = name_of (slice_get columns place) ∷ []
+column_words columns place = name_word (slice_get columns place) ∷ []
 
 abbrev pub table_name : Option TableDef → Word
 table_name (Some table) = name table.name
@@ -79,20 +79,20 @@ literal_words (value.Int n) = int_words n
 literal_words (value.Text text) = word.Text text ∷ []
 
 -- how many bytes stand up to the last one that is no blank
-abbrev pub kept : List ℕ → ℕ
-kept [] = 0
-kept (b ∷ bs) = if b == 32 && kept bs == 0 then 0 else kept bs + 1
+abbrev pub length_unblanked : List ℕ → ℕ
+length_unblanked [] = 0
+length_unblanked (b ∷ bs) = if b == 32 && length_unblanked bs == 0 then 0 else length_unblanked bs + 1
 
 -- a value of a record; a text stands without its last blanks
 abbrev pub value_words : Value → List Word
 value_words (value.Int n) = int_words n
-value_words (value.Text text) = word.Text (take (kept text) text) ∷ []
+value_words (value.Text text) = word.Text (take (length_unblanked text) text) ∷ []
 
 unfoldable pub first_words : List Value → List Word
-first_words row = inside (with_commas literal_words row)
+first_words row = in_parentheses (with_commas literal_words row)
 
 unfoldable pub row_words : List Value → List Word
-row_words row = inside (with_commas value_words row)
+row_words row = in_parentheses (with_commas value_words row)
 
 -- ---- expressions
 
@@ -104,12 +104,12 @@ pub record Printed : Type 0 where
 abbrev pub leaf : List Word → Printed
 leaf words = record { words = words; is_operator = false }
 
--- an operand that is itself an operator stands in parentheses
-abbrev pub operand : Printed → List Word
-operand p = if p.is_operator then inside p.words else p.words
+-- an operand_words that is itself an operator stands in parentheses
+abbrev pub operand_words : Printed → List Word
+operand_words p = if p.is_operator then in_parentheses p.words else p.words
 
 abbrev pub between : Word → Printed → Printed → Printed
-between op a b = record { words = operand a ++ op ∷ operand b; is_operator = true }
+between op a b = record { words = operand_words a ++ op ∷ operand_words b; is_operator = true }
 
 abbrev pub arith_sign : ArithOp → Sign
 arith_sign Add = signs.Plus
@@ -133,7 +133,7 @@ print_step columns (expr.Arith op a b) = between (sign (arith_sign op)) a b
 print_step columns (expr.Compare op a b) = between (sign (compare_sign op)) a b
 print_step columns (expr.And a b) = between (key keys.And) a b
 print_step columns (expr.Or a b) = between (key keys.Or) a b
-print_step columns (expr.Not a) = record { words = key keys.Not ∷ operand a; is_operator = true }
+print_step columns (expr.Not a) = record { words = key keys.Not ∷ operand_words a; is_operator = true }
 
 abbrev pub printed_expr : List Column → Expr → Printed
 printed_expr columns e = fold-Expr Printed (print_step columns) e
@@ -157,7 +157,7 @@ limits_words limits =
 
 abbrev pub kind_words : ColumnKind → List Word
 kind_words kinds.Int = key keys.Int ∷ []
-kind_words (kinds.Char n) = key keys.Char ∷ inside (word.Number n ∷ [])
+kind_words (kinds.Char n) = key keys.Char ∷ in_parentheses (word.Number n ∷ [])
 
 -- a column with the comma behind it
 abbrev pub declared_words : Column → List Word
@@ -165,14 +165,14 @@ declared_words column = name column.name ∷ (kind_words column.kind ++ sign sig
 
 -- ( k , .. )
 unfoldable pub place_words : List Column → List ℕ → List Word
-place_words columns places = inside (with_commas (column_words columns) places)
+place_words columns places = in_parentheses (with_commas (column_words columns) places)
 
 unfoldable pub key_words : List Column → List ℕ → List Word
 key_words columns places = key keys.Primary ∷ key keys.Key ∷ place_words columns places
 
 -- a CHECK with the comma before it
 abbrev pub check_words : List Column → Expr → List Word
-check_words columns e = sign signs.Comma ∷ key keys.Check ∷ inside (expr_words columns e)
+check_words columns e = sign signs.Comma ∷ key keys.Check ∷ in_parentheses (expr_words columns e)
 
 -- FIRST KEY stands only where there are first keys
 abbrev pub firsts_words : List (List Value) → List Word
@@ -183,7 +183,7 @@ abbrev pub declaration : TableDef → List Word
 declaration table = flat_map declared_words table.columns ++ (key_words table.columns table.key ++ flat_map (check_words table.columns) table.checks)
 
 abbrev pub table_words : TableDef → List Word
-table_words table = key keys.Table ∷ name table.name ∷ (inside (declaration table) ++ (firsts_words table.firsts ++ sign signs.Semicolon ∷ []))
+table_words table = key keys.Table ∷ name table.name ∷ (in_parentheses (declaration table) ++ (firsts_words table.firsts ++ sign signs.Semicolon ∷ []))
 
 abbrev pub load_words : List TableDef → Load → List Word
 load_words tables load = key keys.Load ∷ table_name (slice_get tables load.table) ∷ (with_commas row_words load.rows ++ sign signs.Semicolon ∷ [])
@@ -208,7 +208,7 @@ abbrev pub access_words : List Column → Option Expr → Access → List Word
 access_words columns filter access = filter_words columns filter ++ key keys.For ∷ key (access_key access) ∷ key keys.Access ∷ sign signs.Semicolon ∷ []
 
 abbrev pub set_words : List Column → Assign → List Word
-set_words columns set = name_of (slice_get columns set.column) ∷ sign signs.Equal ∷ expr_words columns set.value
+set_words columns set = name_word (slice_get columns set.column) ∷ sign signs.Equal ∷ expr_words columns set.value
 
 -- INSERT INTO t VALUES
 unfoldable pub into_words : Option TableDef → List Word

@@ -1,7 +1,7 @@
 //! The bytes of expressions.
 ghost use Rattle.std.specs.Prelude.{◌≡◌, ◌++◌, ◌∷◌, [], OnOk};
 ghost use Rattle.statement_printer.specs.Bytes.{bytes_of};
-ghost use Rattle.statement_printer.specs.Printing.{arith_sign, compare_sign, operand, printed_expr};
+ghost use Rattle.statement_printer.specs.Printing.{arith_sign, compare_sign, operand_words, printed_expr};
 
 use crate::values::put_column;
 use crate::words::{put_int, put_key, put_sign, put_text};
@@ -44,7 +44,7 @@ fn is_operator(columns: &[Column], e: &Expr) -> bool
 
 #[cycle(printing)]
 fn put_operand(out: &mut Vec<u8>, columns: &[Column], e: &Expr) -> Result<(), NoMemory>
-    ensures { OnOk result (out.new.items ≡ out.old.items ++ bytes_of (operand (printed_expr columns.now e.now))) }
+    ensures { OnOk result (out.new.items ≡ out.old.items ++ bytes_of (operand_words (printed_expr columns.now e.now))) }
 {
     if !is_operator(columns, e) {
         return put_expr(out, columns, e);

@@ -3,7 +3,7 @@ ghost use Rattle.std.specs.Prelude.{◌≡◌, ◌≤◌, ◌++◌, ◌∷◌, [
 ghost use Rattle.statement_words.specs.Spans.{quoted, sign_spelling};
 ghost use Rattle.statement_words.specs.declared.tokens.Word.TheVariants as word;
 ghost use Rattle.statement_printer.specs.Bytes.{bytes_of, sign_gap, with_gap};
-ghost use Rattle.statement_printer.specs.Printing.{int_words, key, kept, name, sign};
+ghost use Rattle.statement_printer.specs.Printing.{int_words, key, length_unblanked, name, sign};
 
 use itoa::Buffer;
 use sql_base::NoMemory;
@@ -133,7 +133,7 @@ pub fn put_text(out: &mut Vec<u8>, text: &[u8]) -> Result<(), NoMemory>
 
 /// How many bytes stand up to the last one that is no blank.
 pub fn kept(text: &[u8]) -> usize
-    ensures same { result ≡ kept text.now }
+    ensures same { result ≡ length_unblanked text.now }
     ensures within { result ≤ length text.now }
 {
     match text {

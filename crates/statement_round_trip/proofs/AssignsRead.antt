@@ -29,7 +29,7 @@ use Rattle.statement_draft.specs.Expressions.{bytes_up, columns_in, expression_b
 use Rattle.statement_draft.specs.Faults.{noted, noted_as, sooner}
 use Rattle.statement_draft.specs.Judging.{all_ended, came, ended, read_from, word_read}
 use Rattle.statement_draft.specs.Names.{column_named, is_long}
-use Rattle.statement_draft.specs.StatementEvents.{assigned, set_came, set_fault, set_found, set_in, set_named}
+use Rattle.statement_draft.specs.StatementEvents.{with_assign, set_came, set_fault, set_found, column_set, set_named}
 use Rattle.statement_draft.specs.declared.draft.Draft.{Draft}
 use Rattle.statement_draft.specs.declared.draft.NewExpression.{NewExpression}
 use Rattle.statement_draft.specs.declared.faults.Fault.{Fault}
@@ -37,8 +37,8 @@ use Rattle.statement_draft.specs.declared.faults.Reason.{Reason}
 use Rattle.statement_draft.specs.declared.faults.Reason.TheVariants.{OverLimit, Repeated, TextTooLong, WrongType}
 use Rattle.statement_draft.specs.declared.kinds.Kind.{Kind}
 use Rattle.statement_draft.specs.declared.kinds.Operand.{Operand}
-use Rattle.statement_printer.specs.Printing.{expr_words, name, name_of, set_words, sign}
-use Rattle.statement_round_trip.specs.Onward.{Reads}
+use Rattle.statement_printer.specs.Printing.{expr_words, name, name_word, set_words, sign}
+use Rattle.statement_round_trip.specs.Onward.{ReadsOn}
 use Rattle.statement_round_trip.specs.Rereading.{summary, EndsExpression}
 use Rattle.statement_round_trip.proofs.Beginning.{on_table}
 use Rattle.statement_round_trip.proofs.Described.{small, summary_describes}
@@ -70,8 +70,8 @@ value_known table k e is =
 
 pub value_reads : (table : TableDef) → IsTable table → (k : base.Kind) (e : Expr) → IsExpr table k e → (s : List Symbol) (d : Draft) (v : Word) (ws : List Word) (Last : Draft → Type 0)
     → columns_in d.scope d ≡ Some table.columns → EndsExpression v
-    → ((place : ℕ) → Reads s (with_operand (summary table.columns e) (expression_begins place d)) (v ∷ ws) Last)
-    → Reads (part parts.Expression ∷ part parts.AndRest ∷ part parts.OrRest ∷ s) d (expr_words table.columns e ++ v ∷ ws) Last
+    → ((place : ℕ) → ReadsOn s (with_operand (summary table.columns e) (expression_begins place d)) (v ∷ ws) Last)
+    → ReadsOn (part parts.Expression ∷ part parts.AndRest ∷ part parts.OrRest ∷ s) d (expr_words table.columns e ++ v ∷ ws) Last
 value_reads table declared k e is s d v ws Last scope ends_it more =
     through _ s d (expr_words table.columns e) v ws Last (λ place. with_operand (summary table.columns e) (expression_begins place d))
     (λ tokens t ts at h word. wholes_read_back table.columns (columns_named table declared) e (typed_leaves table e k is.typed)
@@ -98,8 +98,8 @@ set_is : (t : ℕ) (table : TableDef) (c : ℕ) (n : List ℕ) (at p : ℕ) (col
     → set_came n p (setting at column place before sets code e (on_table t d)) ≡ setting at (Some c) p (before ++ c ∷ []) sets code e (on_table t d)
 set_is t table c n at p column place before sets code e d here named short no_key new =
     let d1 = setting at column place before sets code e (on_table t d) in
-    ap (λ (long : Bool). set_named (set_in (option_and_then (slice_get d.tables) (Some t)) n p before (noted long OverLimit p d.first)) p d1) short
-    ∙ ap (λ (o : Option TableDef). set_named (set_in o n p before d.first) p d1) here
+    ap (λ (long : Bool). set_named (column_set (option_and_then (slice_get d.tables) (Some t)) n p before (noted long OverLimit p d.first)) p d1) short
+    ∙ ap (λ (o : Option TableDef). set_named (column_set o n p before d.first) p d1) here
     ∙ ap (λ (o : Option ℕ). set_named (set_found table o p before d.first) p d1) named
     ∙ ap (λ (b : Bool). set_named (Some c, noted b WrongType p (noted (list_any (nat_eq c) before) Repeated p d.first)) p d1) no_key
     ∙ ap (λ (b : Bool). set_named (Some c, noted b Repeated p d.first) p d1) new
@@ -121,7 +121,7 @@ abbrev one_set : ℕ → Expr → Assign
 one_set c e = record { column = c; value = e }
 
 abbrev ended_with : ℕ → ℕ → ℕ → ℕ → List ℕ → List Assign → ℕ → Draft → Option Reason → Bool → Option Fault → Option Expr → Draft
-ended_with at c p q columns sets code d fault deep first tree = record (setting at (Some c) p columns (assigned (Some c) tree sets) code (no_expression 0) d) {
+ended_with at c p q columns sets code d fault deep first tree = record (setting at (Some c) p columns (with_assign (Some c) tree sets) code (no_expression 0) d) {
   first = noted_as fault p (noted deep OverLimit q first);
 }
 
@@ -154,14 +154,14 @@ pub assign_reads : (t : ℕ) (table : TableDef) → IsTable table → (set : Ass
     → slice_get d.tables t ≡ Some table → (named : Column) → slice_get table.columns set.column ≡ Some named → list_any (nat_eq set.column) before ≡ false
     → (s : List Symbol) (v : Word) (ws : List Word) (Last : Draft → Type 0) → EndsExpression v
     → ((p bytes : ℕ) → bytes ≡ min 8193 (length (code_of set.value))
-    → Reads s (setting at (Some set.column) p (before ++ set.column ∷ []) (sets ++ set ∷ []) (bytes_up (code + 3 + bytes)) (no_expression 0) (on_table t d)) (v ∷ ws) Last)
-    → Reads (set_symbols s) (setting at column place before sets code e (on_table t d)) (set_words table.columns set ++ v ∷ ws) Last
+    → ReadsOn s (setting at (Some set.column) p (before ++ set.column ∷ []) (sets ++ set ∷ []) (bytes_up (code + 3 + bytes)) (no_expression 0) (on_table t d)) (v ∷ ws) Last)
+    → ReadsOn (set_symbols s) (setting at column place before sets code e (on_table t d)) (set_words table.columns set ++ v ∷ ws) Last
 assign_reads t table declared set is at column place before sets code e d here named found new s v ws Last ends_it more =
     let d1 = setting at column place before sets code e (on_table t d) in
     let names = columns_named table declared set.column named found in
     let known = value_known table is.1 set.value is.5 in
     let x = summary table.columns set.value in
-    spelled _ d1 _ _ Last (ap (λ (o : Option Column). name_of o ∷ sign signs.Equal ∷ (expr_words table.columns set.value ++ v ∷ ws)) found)
+    spelled _ d1 _ _ Last (ap (λ (o : Option Column). name_word o ∷ sign signs.Equal ∷ (expr_words table.columns set.value ++ v ∷ ws)) found)
     (step _ d1 _ _ Last _ _ (name_steps named.name _ d1) (λ p.
     let d2 = setting at (Some set.column) p (before ++ set.column ∷ []) sets code e (on_table t d) in
     from _ _ d2 _ Last (set_is t table set.column named.name at p column place before sets code e d here names.0 names.1 is.3 new)

@@ -8,9 +8,9 @@ use Rattle.statement_grammar.specs.declared.symbols.End.{End}
 use Rattle.statement_grammar.specs.declared.symbols.Part.{Part}
 use Rattle.statement_grammar.specs.declared.symbols.Symbol.{Symbol}
 use Rattle.statement_grammar.specs.declared.symbols.Symbol.TheVariants as symbols
-use Rattle.statement_draft.specs.Judging.{all_ended, at_the_end, end_read, ended, read_from}
+use Rattle.statement_draft.specs.Judging.{all_ended, end_judged, end_read, ended, read_from}
 use Rattle.statement_draft.specs.declared.draft.Draft.{Draft}
-use Rattle.statement_round_trip.specs.Onward.{Reads}
+use Rattle.statement_round_trip.specs.Onward.{ReadsOn}
 use Rattle.statement_round_trip.proofs.Onward.{end_before, skip}
 use Rattle.statement_round_trip.proofs.Tokens.{no_tokens}
 
@@ -34,7 +34,7 @@ finish_behind es fs (symbols.Ended e ∷ s) = ap (λ (all : List End). finish al
 
 -- the draft where no word is left
 abbrev finished : Draft → ℕ → Finish → Draft
-finished d at f = at_the_end f.whole at (all_ended f.ends d)
+finished d at f = end_judged f.whole at (all_ended f.ends d)
 
 read_nothing : (s : List Symbol) (d : Draft) (at : ℕ) → read_from s d [] at ≡ finished d at (finish [] s)
 unfolding read_from end_read
@@ -72,7 +72,7 @@ Skips p [] = Unit {0}
 Skips p (w ∷ ws) = behind p w ≡ None
 
 -- what has ended is noted before the next word, or where there is none
-pub end_then : (e : End) (s : List Symbol) (d : Draft) (ws : List Word) (Last : Draft → Type 0) → Reads s (ended e d) ws Last → Reads (symbols.Ended e ∷ s) d ws Last
+pub end_then : (e : End) (s : List Symbol) (d : Draft) (ws : List Word) (Last : Draft → Type 0) → ReadsOn s (ended e d) ws Last → ReadsOn (symbols.Ended e ∷ s) d ws Last
 end_then e s d [] Last more = λ tokens at h.
     let none = no_tokens tokens h in
     let same = ap (λ (l : List Token). read_from (symbols.Ended e ∷ s) d l at) none ∙ end_of_nothing e s d at
@@ -82,7 +82,7 @@ end_then e s d (w ∷ ws) Last more = end_before e s d w ws Last more
 
 -- a part that has no words before the next one, or where there is none
 pub skip_then : (p : Part) (s : List Symbol) (d : Draft) (ws : List Word) (Last : Draft → Type 0) → may_be_empty p ≡ true → Skips p ws
-    → Reads s d ws Last → Reads (symbols.Part p ∷ s) d ws Last
+    → ReadsOn s d ws Last → ReadsOn (symbols.Part p ∷ s) d ws Last
 skip_then p s d [] Last empty other more = λ tokens at h.
     let none = no_tokens tokens h in
     let same = ap (λ (l : List Token). read_from (symbols.Part p ∷ s) d l at) none ∙ skip_of_nothing p s d at empty
@@ -91,5 +91,5 @@ skip_then p s d [] Last empty other more = λ tokens at h.
 skip_then p s d (w ∷ ws) Last empty other more = skip p s d w ws Last empty other more
 
 -- where nothing more must come, and no word is left
-pub at_last : (d : Draft) (Last : Draft → Type 0) → Last d → Reads [] d [] Last
+pub at_last : (d : Draft) (Last : Draft → Type 0) → Last d → ReadsOn [] d [] Last
 at_last d Last h tokens at none = subst Last (sym (ap (λ (l : List Token). read_from [] d l at) (no_tokens tokens none) ∙ all_read d at)) h

@@ -32,7 +32,7 @@ use Rattle.statement_draft.specs.declared.kinds.Kind.{Kind}
 use Rattle.statement_draft.specs.declared.kinds.Kind.TheVariants as kind
 use Rattle.statement_draft.specs.declared.kinds.Operand.{Operand}
 use Rattle.statement_printer.specs.Printing.{check_words, expr_words, key, sign}
-use Rattle.statement_round_trip.specs.Onward.{Reads}
+use Rattle.statement_round_trip.specs.Onward.{ReadsOn}
 use Rattle.statement_round_trip.specs.Rereading.{summary}
 use Rattle.statement_round_trip.proofs.AssignsRead.{value_known, value_reads, Value}
 use Rattle.statement_round_trip.proofs.ColumnsRead.{open_steps}
@@ -109,8 +109,8 @@ module _ (table : TableDef) (column : List ℕ) (column_at bytes key_bytes : ℕ
   -- the CHECKs that are left, and the `)` behind them
   pub checks_read : (rest before : List Expr) (at : ℕ) (names : Scope) (e : NewExpression) → IsTable table → AllByRecursion (IsExpr table OfTruth) rest
       → length before + length rest ≤ 8 → (s : List Symbol) (ws : List Word) (Last : Draft → Type 0)
-      → ((at : ℕ) (names : Scope) (e : NewExpression) → Reads s (at_checks (before ++ rest) at names e) ws Last)
-      → Reads (part parts.MoreChecks ∷ grammar.sign signs.Close ∷ s) (at_checks before at names e) (flat_map (check_words table.columns) rest ++ sign signs.Close ∷ ws) Last
+      → ((at : ℕ) (names : Scope) (e : NewExpression) → ReadsOn s (at_checks (before ++ rest) at names e) ws Last)
+      → ReadsOn (part parts.MoreChecks ∷ grammar.sign signs.Close ∷ s) (at_checks before at names e) (flat_map (check_words table.columns) rest ++ sign signs.Close ∷ ws) Last
   checks_read [] before at names e is all few s ws Last more =
       let d1 = at_checks before at names e in
       skip parts.MoreChecks _ d1 (sign signs.Close) ws Last refl no_more

@@ -31,7 +31,7 @@ use Rattle.statement_draft.specs.declared.draft.Draft.{Draft}
 use Rattle.statement_draft.specs.declared.draft.NewTable.{NewTable}
 use Rattle.statement_draft.specs.declared.faults.Reason.TheVariants.{NumberTooWide, OverLimit, Repeated}
 use Rattle.statement_printer.specs.Printing.{declared_words, key, kind_words, name, sign}
-use Rattle.statement_round_trip.specs.Onward.{Reads}
+use Rattle.statement_round_trip.specs.Onward.{ReadsOn}
 use Rattle.statement_round_trip.proofs.Naming.{not_long}
 use Rattle.statement_round_trip.proofs.NamesApart.{all_new_more, names_differ, unnamed, AllNew}
 use Rattle.statement_round_trip.proofs.Onward.{from, spelled, step, StepsTo}
@@ -130,8 +130,8 @@ width_steps n s d first end ts at = refl
 -- INT, or CHAR ( 10 )
 kind_reads : (n : List ℕ) (columns : List Column) (c : List ℕ) (at bytes : ℕ) (kind : ColumnKind) (d : Draft) → IsWidth kind → bytes + width kind ≤ 256 → length columns < 32
     → (s : List Symbol) (ws : List Word) (Last : Draft → Type 0)
-    → Reads s (tabled (columned n (columns ++ one_column c kind ∷ []) c at (bytes + width kind)) d) ws Last
-    → Reads (part parts.ColumnKind ∷ s) (tabled (columned n columns c at bytes) d) (kind_words kind ++ ws) Last
+    → ReadsOn s (tabled (columned n (columns ++ one_column c kind ∷ []) c at (bytes + width kind)) d) ws Last
+    → ReadsOn (part parts.ColumnKind ∷ s) (tabled (columned n columns c at bytes) d) (kind_words kind ++ ws) Last
 kind_reads n columns c at bytes Int d is fits few s ws Last more =
     step _ _ _ _ Last _ _ (int_steps s (tabled (columned n columns c at bytes) d)) (λ i.
     from s _ _ ws Last (kind_is n columns c at bytes Int 8 d fits few) more)
@@ -150,8 +150,8 @@ comma_steps s d first end ts at = refl
 -- the kind of a column, and the comma behind it
 rest_of_column : (n : List ℕ) (columns : List Column) (column : Column) (at bytes : ℕ) (d : Draft) → IsWidth column.kind → bytes + width column.kind ≤ 256 → length columns < 32
     → (s : List Symbol) (ws : List Word) (Last : Draft → Type 0)
-    → Reads s (tabled (columned n (columns ++ column ∷ []) column.name at (bytes + width column.kind)) d) ws Last
-    → Reads (part parts.ColumnKind ∷ grammar.sign signs.Comma ∷ s) (tabled (columned n columns column.name at bytes) d) ((kind_words column.kind ++ sign signs.Comma ∷ []) ++ ws) Last
+    → ReadsOn s (tabled (columned n (columns ++ column ∷ []) column.name at (bytes + width column.kind)) d) ws Last
+    → ReadsOn (part parts.ColumnKind ∷ grammar.sign signs.Comma ∷ s) (tabled (columned n columns column.name at bytes) d) ((kind_words column.kind ++ sign signs.Comma ∷ []) ++ ws) Last
 rest_of_column n columns column at bytes d is fits few s ws Last more =
     spelled _ _ _ _ Last (append_assoc (kind_words column.kind) (sign signs.Comma ∷ []) ws)
     (kind_reads n columns column.name at bytes column.kind d is fits few _ _ Last
@@ -199,11 +199,11 @@ room_for before column rest bytes h =
 
 -- where all columns have been read
 abbrev Columned : List ℕ → List Column → Draft → List Symbol → List Word → (Draft → Type 0) → Type 0
-Columned n columns d s ws Last = (c : List ℕ) (at bytes : ℕ) → Reads (part parts.ColumnOrKey ∷ s) (tabled (columned n columns c at bytes) d) ws Last
+Columned n columns d s ws Last = (c : List ℕ) (at bytes : ℕ) → ReadsOn (part parts.ColumnOrKey ∷ s) (tabled (columned n columns c at bytes) d) ws Last
 
 others_read : (rest before : List Column) (n c : List ℕ) (at bytes : ℕ) (d : Draft) → MayFollow before rest bytes
     → (s : List Symbol) (ws : List Word) (Last : Draft → Type 0) → Columned n (before ++ rest) d s ws Last
-    → Reads (part parts.ColumnOrKey ∷ s) (tabled (columned n before c at bytes) d) (flat_map declared_words rest ++ ws) Last
+    → ReadsOn (part parts.ColumnOrKey ∷ s) (tabled (columned n before c at bytes) d) (flat_map declared_words rest ++ ws) Last
 others_read [] before n c at bytes d h s ws Last more =
     from _ _ _ ws Last (ap (λ (l : List Column). tabled (columned n l c at bytes) d) (sym (append-nil before))) (more c at bytes)
 others_read (column ∷ rest) before n c at bytes d h s ws Last more =
@@ -220,7 +220,7 @@ others_read (column ∷ rest) before n c at bytes d h s ws Last more =
 -- k INT , .. with a comma behind each
 pub columns_read : (columns : List Column) (n : List ℕ) (d : Draft) → 0 < length columns → MayFollow [] columns 0
     → (s : List Symbol) (ws : List Word) (Last : Draft → Type 0) → Columned n columns d s ws Last
-    → Reads (grammar.name roles.FirstColumn ∷ part parts.ColumnKind ∷ grammar.sign signs.Comma ∷ part parts.ColumnOrKey ∷ s) (tabled (columned n [] [] 0 0) d)
+    → ReadsOn (grammar.name roles.FirstColumn ∷ part parts.ColumnKind ∷ grammar.sign signs.Comma ∷ part parts.ColumnOrKey ∷ s) (tabled (columned n [] [] 0 0) d)
     (flat_map declared_words columns ++ ws) Last
 columns_read [] n d some h s ws Last more = absurd (omega (arith, some))
 columns_read (column ∷ rest) n d some h s ws Last more =

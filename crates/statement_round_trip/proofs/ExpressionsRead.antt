@@ -21,7 +21,7 @@ use Rattle.statement_draft.specs.declared.kinds.Kind.TheVariants as kind
 use Rattle.statement_draft.specs.declared.kinds.Op.{Op}
 use Rattle.statement_draft.specs.declared.kinds.Op.TheVariants as op
 use Rattle.statement_draft.specs.declared.kinds.Operand.{Operand}
-use Rattle.statement_printer.specs.Printing.{Printed, printed_expr, print_step, operand, between, leaf, int_words, name_of, sign, key, arith_sign, compare_sign}
+use Rattle.statement_printer.specs.Printing.{Printed, printed_expr, print_step, operand_words, between, leaf, int_words, name_word, sign, key, arith_sign, compare_sign}
 use Rattle.sql_base.specs.Rows.{in_i64}
 use Rattle.statement_round_trip.specs.Rereading.{summary, summary_step, int_operand, has_leaves, leaves_step, AreNamed, ReadAs, ExpressionsReadBack}
 use Rattle.statement_printer.proofs.Joining.{words_of_pos}
@@ -32,7 +32,7 @@ use Rattle.statement_round_trip.proofs.RowsRead.{narrow}
 
 record Back (columns : List Column) (q : Printed) (depth : ℕ) (x : Operand) : Type 0 where
   pub whole : ReadAs columns q.words depth x
-  pub stands : Stands columns (operand q) depth x
+  pub stands : Stands columns (operand_words q) depth x
 
 abbrev Gives : List Column → Bool → Printed → ℕ → Operand → Type 0
 Gives columns leaves q depth x = leaves ≡ true → is_some x.kind ≡ true → Back columns q depth x
@@ -81,15 +81,15 @@ back_binary : (columns : List Column) (w : Word) (o : Op) → Level w o → (la 
 back_binary columns w o level la lb qa qb m n x y left right leaves typed =
     let l = both_hold la lb leaves in
     let t = typed_binary o x.kind y.kind typed in
-    let whole = whole_binary columns w o level (operand qa) (operand qb) m n (max m n + 1) x y (left l.0 t.0).stands (right l.1 t.1).stands (omega arith) (omega arith) t.2 in
-    record { whole = whole; stands = stands_inside columns (operand qa ++ w ∷ operand qb) (max m n + 1) (binary o x y) whole }
+    let whole = whole_binary columns w o level (operand_words qa) (operand_words qb) m n (max m n + 1) x y (left l.0 t.0).stands (right l.1 t.1).stands (omega arith) (omega arith) t.2 in
+    record { whole = whole; stands = stands_inside columns (operand_words qa ++ w ∷ operand_words qb) (max m n + 1) (binary o x y) whole }
 
 back_not : (columns : List Column) (l : Bool) (q : Printed) (m : ℕ) (x : Operand) → Gives columns l q m x
-    → Gives columns l (record { words = key keys.Not ∷ operand q; is_operator = true }) (m + 1) (negation x)
+    → Gives columns l (record { words = key keys.Not ∷ operand_words q; is_operator = true }) (m + 1) (negation x)
 back_not columns l q m x given leaves typed =
     let t = typed_not x.kind typed in
-    let whole = whole_not columns (operand q) m (m + 1) x (given leaves t.0).stands (omega arith) t.1 in
-    record { whole = whole; stands = stands_inside columns (key keys.Not ∷ operand q) (m + 1) (negation x) whole }
+    let whole = whole_not columns (operand_words q) m (m + 1) x (given leaves t.0).stands (omega arith) t.1 in
+    record { whole = whole; stands = stands_inside columns (key keys.Not ∷ operand_words q) (m + 1) (negation x) whole }
 
 back_int : (columns : List Column) (n : ℤ) → Gives columns (in_i64 n) (leaf (int_words n)) 1 (int_operand n)
 back_int columns (pos n) leaves typed =
@@ -99,7 +99,7 @@ back_int columns (negsuc n) leaves typed =
     back_leaf columns (sign signs.Minus ∷ word.Number (suc n) ∷ []) (negative_operand (suc n)) (λ depth. stands_negative columns (suc n) depth)
 
 back_column : (columns : List Column) → AreNamed columns → (c : ℕ) (found : Option Column) → slice_get columns c ≡ found
-    → Gives columns (is_some found) (leaf (name_of found ∷ [])) 1 (name_operand columns (Some c))
+    → Gives columns (is_some found) (leaf (name_word found ∷ [])) 1 (name_operand columns (Some c))
 back_column columns named c None e leaves typed = absurd cc
 back_column columns named c (Some column) e leaves typed =
     let n = named c column e in

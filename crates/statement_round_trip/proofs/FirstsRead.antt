@@ -30,7 +30,7 @@ use Rattle.statement_draft.specs.declared.draft.NewTable.{NewTable}
 use Rattle.statement_draft.specs.declared.draft.RowOf.TheVariants as row_of
 use Rattle.statement_draft.specs.declared.faults.Reason.TheVariants.{NotRising, OverLimit, TextTooLong}
 use Rattle.statement_printer.specs.Printing.{first_words, firsts_words, key, literal_words, sign}
-use Rattle.statement_round_trip.specs.Onward.{Reads}
+use Rattle.statement_round_trip.specs.Onward.{ReadsOn}
 use Rattle.statement_round_trip.proofs.KeysRead.{key_steps}
 use Rattle.statement_round_trip.proofs.Onward.{end_before, from, skip, spelled, step, StepsTo}
 use Rattle.statement_round_trip.proofs.RowsFit.{at_front, one_longer}
@@ -120,8 +120,8 @@ module _ (table : NewTable) (d : Draft) where
   -- a first key, and the word behind it
   one_reads : (firsts : List (List Value)) (last : List ℕ) (at minus : ℕ) (old vs : List Value) → d.first ≡ None → parts_of d.tables + length firsts < 15 → Follows table last vs
       → (s : List Symbol) (w : Word) (ws : List Word) (Last : Draft → Type 0)
-      → ((at minus : ℕ) → Reads s (at_firsts (firsts ++ vs ∷ []) (key_from table vs) at minus []) (w ∷ ws) Last)
-      → Reads (part parts.Row ∷ grammar.ended ends.FirstKey ∷ s) (at_firsts firsts last at minus old) (first_words vs ++ w ∷ ws) Last
+      → ((at minus : ℕ) → ReadsOn s (at_firsts (firsts ++ vs ∷ []) (key_from table vs) at minus []) (w ∷ ws) Last)
+      → ReadsOn (part parts.Row ∷ grammar.ended ends.FirstKey ∷ s) (at_firsts firsts last at minus old) (first_words vs ++ w ∷ ws) Last
   unfolding first_words
   one_reads firsts last at minus old [] clean few h s w ws Last more = absurd (omega (arith, h.some))
   one_reads firsts last at minus old (v ∷ vs) clean few h s w ws Last more =
@@ -151,11 +151,11 @@ module _ (table : NewTable) (d : Draft) where
 
   -- where all first keys have been read
   abbrev Divided : List (List Value) → List Symbol → List Word → (Draft → Type 0) → Type 0
-  Divided firsts s ws Last = (last : List ℕ) (row : NewRow) → Reads s (dividing (divided firsts last table) row d) (sign signs.Semicolon ∷ ws) Last
+  Divided firsts s ws Last = (last : List ℕ) (row : NewRow) → ReadsOn s (dividing (divided firsts last table) row d) (sign signs.Semicolon ∷ ws) Last
 
   others_read : (firsts before : List (List Value)) (last : List ℕ) (at minus : ℕ) → d.first ≡ None → parts_of d.tables + length before + length firsts ≤ 15
       → AllFollow table last firsts → (s : List Symbol) (ws : List Word) (Last : Draft → Type 0) → Divided (before ++ firsts) s ws Last
-      → Reads (part parts.MoreFirstKeys ∷ s) (at_firsts before last at minus []) (others firsts ++ sign signs.Semicolon ∷ ws) Last
+      → ReadsOn (part parts.MoreFirstKeys ∷ s) (at_firsts before last at minus []) (others firsts ++ sign signs.Semicolon ∷ ws) Last
   others_read [] before last at minus clean few h s ws Last more =
       skip parts.MoreFirstKeys s _ (sign signs.Semicolon) ws Last refl no_more
       (from s _ _ _ Last (ap (λ (l : List (List Value)). at_firsts l last at minus []) (sym (append-nil before))) (more last (of_key at minus [])))
@@ -180,7 +180,7 @@ module _ (table : NewTable) (d : Draft) where
   -- FIRST KEY ( .. ) , .. and the `;` behind it
   pub firsts_read : (firsts : List (List Value)) (old : List ℕ) (row : NewRow) → d.first ≡ None → parts_of d.tables + length firsts ≤ 15
       → AllFollow table (replicate table.key_width 0) firsts → (s : List Symbol) (ws : List Word) (Last : Draft → Type 0) → Divided firsts s ws Last
-      → Reads (part parts.FirstKeys ∷ s) (dividing (divided [] old table) row d) (firsts_words firsts ++ sign signs.Semicolon ∷ ws) Last
+      → ReadsOn (part parts.FirstKeys ∷ s) (dividing (divided [] old table) row d) (firsts_words firsts ++ sign signs.Semicolon ∷ ws) Last
   firsts_read [] old row clean few h s ws Last more = skip parts.FirstKeys s _ (sign signs.Semicolon) ws Last refl no_firsts (more old row)
   firsts_read (vs ∷ firsts) old row clean few h s ws Last more =
       let n = behind_others firsts ws in

@@ -21,7 +21,7 @@ use Rattle.statement_draft.specs.declared.draft.NewStatement.{NewStatement}
 use Rattle.statement_draft.specs.declared.draft.Scope.{Scope}
 use Rattle.statement_draft.specs.declared.draft.StatementKind.TheVariants as kinds
 use Rattle.statement_printer.specs.Printing.{insert_words, into_words, statement_words}
-use Rattle.statement_round_trip.specs.Onward.{Reads}
+use Rattle.statement_round_trip.specs.Onward.{ReadsOn}
 use Rattle.statement_round_trip.specs.WholeScripts.{record_of}
 use Rattle.statement_round_trip.proofs.Beginning.{counted, done, more_begin, FewStatements}
 use Rattle.statement_round_trip.proofs.Onward.{from, spelled}
@@ -118,8 +118,8 @@ pub following_read : (sts before : List Statement) (names : Scope) (e : NewExpre
     → AreDeclared d.tables → AllByRecursion (IsStatement d.tables) sts → Room sts records count d
     → (s : List Symbol) (v : Word) (ws : List Word) (Last : Draft → Type 0)
     → ((names : Scope) (e : NewExpression) (row : NewRow) (new : NewStatement)
-    → Reads (part parts.MoreStatements ∷ s) (holding names e row new d (d.work ++ (before ++ sts)) (records + records_of sts) (count + length sts)) (v ∷ ws) Last)
-    → Reads (part parts.MoreStatements ∷ s) (holding names e row new d (d.work ++ before) records count) (flat_map (statement_words d.tables) sts ++ v ∷ ws) Last
+    → ReadsOn (part parts.MoreStatements ∷ s) (holding names e row new d (d.work ++ (before ++ sts)) (records + records_of sts) (count + length sts)) (v ∷ ws) Last)
+    → ReadsOn (part parts.MoreStatements ∷ s) (holding names e row new d (d.work ++ before) records count) (flat_map (statement_words d.tables) sts ++ v ∷ ws) Last
 following_read [] before names e row new d records count declared all room s v ws Last more =
     from _ _ _ (v ∷ ws) Last
     (held names e row new d _ _ _ _ _ _ (ap (λ (l : List Statement). d.work ++ l) (sym (append-nil before))) (none_more records) (none_more count))

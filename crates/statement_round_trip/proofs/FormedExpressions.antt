@@ -16,19 +16,19 @@ use Rattle.statement_words.specs.declared.keywords.Keyword.TheVariants as keys
 use Rattle.statement_words.specs.declared.tokens.Word.{Word}
 use Rattle.statement_words.specs.declared.tokens.Word.TheVariants as word
 use Rattle.statement_words.specs.Spans.{IsFormedWord}
-use Rattle.statement_printer.specs.Printing.{arith_sign, between, compare_sign, expr_words, key, name_of, operand, print_step, printed_expr, sign, Printed}
+use Rattle.statement_printer.specs.Printing.{arith_sign, between, compare_sign, expr_words, key, name_word, operand_words, print_step, printed_expr, sign, Printed}
 use Rattle.statement_round_trip.proofs.FormedParts.{formed_both, formed_inside, formed_int, AreFormed}
 use Rattle.statement_round_trip.proofs.Leaves.{both_of_arith, both_of_compare, both_of_truths, chosen_some, column_there, Both}
 use Rattle.statement_round_trip.proofs.ExpressionsRead.{expr_induction, Cases}
 use Rattle.sql_base.proofs.Truths.{both_hold}
 
-formed_operand : (words : List Word) (is_operator : Bool) → AreFormed words → AreFormed (operand (record { words = words; is_operator = is_operator }))
+formed_operand : (words : List Word) (is_operator : Bool) → AreFormed words → AreFormed (operand_words (record { words = words; is_operator = is_operator }))
 formed_operand words true h = formed_inside words h
 formed_operand words false h = h
 
 formed_between : (op : Word) (a b : Printed) → IsFormedWord op → AreFormed a.words → AreFormed b.words → AreFormed (between op a b).words
 formed_between op a b o h k =
-    formed_both (operand a) (op ∷ operand b) (formed_operand a.words a.is_operator h) (o, formed_operand b.words b.is_operator k)
+    formed_both (operand_words a) (op ∷ operand_words b) (formed_operand a.words a.is_operator h) (o, formed_operand b.words b.is_operator k)
 
 formed_text : (text : List ℕ) → (nat_le (length text) 255 && is_printable text) ≡ true → AreFormed (word.Text text ∷ [])
 formed_text text h = let both = both_hold (nat_le (length text) 255) (is_printable text) h in ((short (length text) both.0, both.1), tt)
@@ -36,7 +36,7 @@ formed_text text h = let both = both_hold (nat_le (length text) 255) (is_printab
     short : (n : ℕ) → nat_le n 255 ≡ true → n ≤ 255
     short n h = grind (arith, nat_tests, h)
 
-formed_column : (columns : List Column) → AllByRecursion (λ column. IsShortName column.name) columns → (c : ℕ) → is_some (slice_get columns c) ≡ true → IsFormedWord (name_of (slice_get columns c))
+formed_column : (columns : List Column) → AllByRecursion (λ column. IsShortName column.name) columns → (c : ℕ) → is_some (slice_get columns c) ≡ true → IsFormedWord (name_word (slice_get columns c))
 formed_column [] all zero h = absurd (cc (h))
 formed_column [] all (suc c) h = absurd (cc (h))
 formed_column (column ∷ columns) all zero h = all.0.name

@@ -16,7 +16,7 @@ use Rattle.statement_words.specs.Spans.{IsFormedWord}
 use Rattle.statement_words.specs.declared.tokens.Sign.TheVariants as signs
 use Rattle.statement_words.specs.declared.tokens.Word.{Word}
 use Rattle.statement_printer.proofs.Joining.{words_of_pos}
-use Rattle.statement_printer.specs.Printing.{column_words, first_words, inside, int_words, kept, literal_words, name_of, row_words, sign, value_words, with_commas}
+use Rattle.statement_printer.specs.Printing.{column_words, first_words, in_parentheses, int_words, length_unblanked, literal_words, name_word, row_words, sign, value_words, with_commas}
 use Rattle.statement_round_trip.proofs.RowsFit.{as_long, take_short}
 use Rattle.sql_base.proofs.Truths.{both_hold}
 use Rattle.sql_base.proofs.ListFacts.{all-weaker}
@@ -42,12 +42,12 @@ pub formed_commas : {A : Type 0} → (words : A → List Word) (xs : List A) →
 formed_commas words [] h = tt
 formed_commas words (x ∷ xs) h = formed_both (words x) (flat_map (λ x. sign signs.Comma ∷ words x) xs) h.0 (formed_others words xs h.1)
 
-pub formed_inside : (words : List Word) → AreFormed words → AreFormed (inside words)
+pub formed_inside : (words : List Word) → AreFormed words → AreFormed (in_parentheses words)
 formed_inside words h = (tt, formed_both words (sign signs.Close ∷ []) h (tt, tt))
 
 -- ---- names
 
-pub formed_place : (columns : List Column) → AllByRecursion (λ column. IsShortName column.name) columns → (c : ℕ) → c < length columns → IsFormedWord (name_of (slice_get columns c))
+pub formed_place : (columns : List Column) → AllByRecursion (λ column. IsShortName column.name) columns → (c : ℕ) → c < length columns → IsFormedWord (name_word (slice_get columns c))
 formed_place [] all c h = absurd (omega (arith, h))
 formed_place (column ∷ columns) all zero h = all.0.name
 formed_place (column ∷ columns) all (suc c) h = formed_place columns all.1 c (omega (arith, h))
@@ -86,8 +86,8 @@ formed_value (Char n) (value.Int m) w h = absurd (cc (h))
 formed_value (Char n) (value.Text text) w h =
     let both = both_hold (length text == n) (is_printable text) h in
     let long = as_long n text h in
-    let short = take_short (kept text) text in
-    ((omega (arith, long, short, w.1), printable_front (kept text) text both.1), tt)
+    let short = take_short (length_unblanked text) text in
+    ((omega (arith, long, short, w.1), printable_front (length_unblanked text) text both.1), tt)
 
 formed_values : (ks : List ColumnKind) (vs : List Value) → AllByRecursion IsWidth ks → are_of_kinds ks vs ≡ true → AllByRecursion (λ v. AreFormed (value_words v)) vs
 formed_values ks [] w h = tt

@@ -25,7 +25,7 @@ use Rattle.statement_words.specs.declared.keywords.Keyword.{Keyword}
 use Rattle.statement_words.specs.declared.keywords.Keyword.TheVariants as keys
 use Rattle.statement_words.specs.declared.tokens.Sign.TheVariants as signs
 use Rattle.statement_words.specs.Spans.{IsFormedWord}
-use Rattle.statement_printer.specs.Printing.{access_words, check_words, column_words, declaration, declared_words, expr_words, filter_words, first_words, firsts_words, insert_words, inside, into_words, key_words, kind_words, limit_words, limits_words, load_words, name_of, place_words, row_words, script_words, session_words, set_words, sign, statement_words, table_name, table_words, with_commas, work_words, words_on}
+use Rattle.statement_printer.specs.Printing.{access_words, check_words, column_words, declaration, declared_words, expr_words, filter_words, first_words, firsts_words, insert_words, in_parentheses, into_words, key_words, kind_words, limit_words, limits_words, load_words, name_word, place_words, row_words, script_words, session_words, set_words, sign, statement_words, table_name, table_words, with_commas, work_words, words_on}
 use Rattle.statement_round_trip.proofs.FormedExpressions.{formed_expression}
 use Rattle.statement_round_trip.proofs.FormedParts.{formed_all, formed_both, formed_commas, formed_first, formed_inside, formed_places, formed_row, AreFormed}
 use Rattle.statement_round_trip.proofs.Naming.{name_at}
@@ -103,7 +103,7 @@ formed_table table is =
       tt,
       (
         is.name.name,
-        formed_both (inside (declaration table)) _ (formed_inside (declaration table) declared)
+        formed_both (in_parentheses (declaration table)) _ (formed_inside (declaration table) declared)
             (formed_both (firsts_words table.firsts) (sign signs.Semicolon ∷ []) (formed_firsts table is table.firsts is.firsts.leading) (tt, tt)),
       ),
     )
@@ -137,7 +137,7 @@ formed_sets table is sets all = formed_commas (set_words table.columns) sets (al
     formed_set : (set : Assign) → IsAssign table set → AreFormed (set_words table.columns set)
     formed_set set suits =
         let named = column_of table set.column suits.0 suits.2 in (
-          subst (λ (o : Option Column). IsFormedWord (name_of o)) (sym named.1) (name_at table.columns set.column named.0 is.column_names named.1),
+          subst (λ (o : Option Column). IsFormedWord (name_word o)) (sym named.1) (name_at table.columns set.column named.0 is.column_names named.1),
           (tt, formed_expression table is.column_names set.value suits.1 suits.5.typed),
         )
 

@@ -24,8 +24,8 @@ use Rattle.statement_draft.specs.declared.draft.RowOf.TheVariants as row_of
 use Rattle.statement_draft.specs.declared.draft.Scope.TheVariants as scope
 use Rattle.statement_draft.specs.declared.draft.StatementKind.TheVariants as statement_kinds
 use Rattle.statement_draft.specs.declared.faults.Reason.TheVariants.{OverLimit, WrongType}
-use Rattle.statement_printer.specs.Printing.{insert_words, inside, into_words, key, name, row_words, sign, value_words, with_commas, words_on}
-use Rattle.statement_round_trip.specs.Onward.{Reads}
+use Rattle.statement_printer.specs.Printing.{insert_words, in_parentheses, into_words, key, name, row_words, sign, value_words, with_commas, words_on}
+use Rattle.statement_round_trip.specs.Onward.{ReadsOn}
 use Rattle.statement_round_trip.proofs.Beginning.{begun, done, on_table, table_is, Begins}
 use Rattle.statement_round_trip.proofs.LimitsRead.{semicolon_steps}
 use Rattle.statement_round_trip.proofs.LocksRead.{Behind}
@@ -88,7 +88,7 @@ insert_ends t ks at minus vs place d = refl
 pub insert_reads : (p : Part) (d after : Draft) → Begins p d after → (t : ℕ) (table : TableDef) (row : List Value)
     → Declared after.tables t table → slice_get after.tables t ≡ Some table → are_of_kinds (kinds table) row ≡ true → FewRecords after
     → (s : List Symbol) (w : Word) (ws : List Word) (Last : Draft → Type 0) → Behind (statement.Insert t row) (recorded after) s w ws Last
-    → Reads (part p ∷ s) d (words_on (Some table) (statement.Insert t row) ++ w ∷ ws) Last
+    → ReadsOn (part p ∷ s) d (words_on (Some table) (statement.Insert t row) ++ w ∷ ws) Last
 unfolding insert_words into_words row_words
 insert_reads p d after begins t table [] is here fits few s w ws Last more = absurd (some_value table is.is.key fits)
 insert_reads p d after begins t table (v ∷ vs) is here fits few s w ws Last more =
@@ -99,7 +99,7 @@ insert_reads p d after begins t table (v ∷ vs) is here fits few s w ws Last mo
     let d2 = on_table t d1 in
     from _ _ (of_row table d2) _ Last (insert_is t table c d1 is here)
     (step _ (of_row table d2) _ _ Last _ _ (values_steps _ (of_row table d2)) (λ i.
-    spelled _ _ _ _ Last (append_assoc (inside (with_commas value_words (v ∷ vs))) (sign signs.Semicolon ∷ []) (w ∷ ws))
+    spelled _ _ _ _ Last (append_assoc (in_parentheses (with_commas value_words (v ∷ vs))) (sign signs.Semicolon ∷ []) (w ∷ ws))
     (row_reads value_words unpadded prints_unpadded row_of.Insert (kinds table) d2.row.at d2.row.minus d2.row.values v vs d2
     (all_fit row_of.Insert insert_fills (kinds table) (v ∷ vs) fits) _ _ Last (λ at minus.
     let d3 = rowed row_of.Insert (kinds table) at minus (v ∷ vs) d2 in

@@ -25,8 +25,8 @@ use Rattle.statement_draft.specs.TableEvents.{added_up_to, column_bytes, key_col
 use Rattle.statement_draft.specs.declared.draft.Draft.{Draft}
 use Rattle.statement_draft.specs.declared.draft.NewTable.{NewTable}
 use Rattle.statement_draft.specs.declared.faults.Reason.TheVariants.{OverLimit, Repeated}
-use Rattle.statement_printer.specs.Printing.{column_words, key, key_words, name, name_of, place_words, sign}
-use Rattle.statement_round_trip.specs.Onward.{Reads}
+use Rattle.statement_printer.specs.Printing.{column_words, key, key_words, name, name_word, place_words, sign}
+use Rattle.statement_round_trip.specs.Onward.{ReadsOn}
 use Rattle.statement_round_trip.specs.Rereading.{AreNamed}
 use Rattle.statement_round_trip.proofs.Apart.{apart_more, apart_none, differing, Apart}
 use Rattle.statement_round_trip.proofs.ColumnsRead.{open_steps, tabled}
@@ -111,15 +111,15 @@ record MayFollow (columns : List Column) (before places : List ℕ) (bytes total
 column_reads : (table : NewTable) → AreNamed table.def.columns → (c : ℕ) (places before : List ℕ) (bytes total : ℕ) (d : Draft)
     → MayFollow table.def.columns before (c ∷ places) bytes total → total ≤ 32
     → (s : List Symbol) (ws : List Word) (Last : Draft → Type 0)
-    → ((bytes : ℕ) → MayFollow table.def.columns (before ++ c ∷ []) places bytes total → Reads s (tabled (keyed (before ++ c ∷ []) bytes table) d) ws Last)
-    → Reads (grammar.name roles.KeyColumn ∷ s) (tabled (keyed before bytes table) d) (name_of (slice_get table.def.columns c) ∷ ws) Last
+    → ((bytes : ℕ) → MayFollow table.def.columns (before ++ c ∷ []) places bytes total → ReadsOn s (tabled (keyed (before ++ c ∷ []) bytes table) d) ws Last)
+    → ReadsOn (grammar.name roles.KeyColumn ∷ s) (tabled (keyed before bytes table) d) (name_word (slice_get table.def.columns c) ∷ ws) Last
 column_reads table named c places before bytes total d h most s ws Last more =
     let found = some-at table.def.columns c h.within.0 in
     let column = found.0 in
     let is = named c column found.1 in
     let on = bytes_on table.def.columns c column places found.1 in
     let split = differing c places h.differ in
-    spelled _ _ _ _ Last (ap (λ (o : Option Column). name_of o ∷ ws) found.1)
+    spelled _ _ _ _ Last (ap (λ (o : Option Column). name_word o ∷ ws) found.1)
     (step _ _ _ _ Last _ _ (name_steps column.name s (tabled (keyed before bytes table) d)) (λ i.
     from s _ _ ws Last (key_is before bytes c column i table d is.0 is.1 found.1 h.apart.0 (omega (arith, on, h.sum, most)))
     (more (bytes + width column.kind) (record {
@@ -131,8 +131,8 @@ column_reads table named c places before bytes total d h most s ws Last more =
 
 others_read : (table : NewTable) → AreNamed table.def.columns → (places before : List ℕ) (bytes total : ℕ) (d : Draft)
     → MayFollow table.def.columns before places bytes total → total ≤ 32
-    → (s : List Symbol) (ws : List Word) (Last : Draft → Type 0) → Reads s (tabled (keyed (before ++ places) total table) d) (sign signs.Close ∷ ws) Last
-    → Reads (part parts.MoreKeyColumns ∷ s) (tabled (keyed before bytes table) d) (others table.def.columns places ++ sign signs.Close ∷ ws) Last
+    → (s : List Symbol) (ws : List Word) (Last : Draft → Type 0) → ReadsOn s (tabled (keyed (before ++ places) total table) d) (sign signs.Close ∷ ws) Last
+    → ReadsOn (part parts.MoreKeyColumns ∷ s) (tabled (keyed before bytes table) d) (others table.def.columns places ++ sign signs.Close ∷ ws) Last
 others_read table named [] before bytes total d h most s ws Last more =
     let same : bytes ≡ total = omega (arith, h.sum) in
     skip parts.MoreKeyColumns s _ (sign signs.Close) ws Last refl no_more
@@ -148,8 +148,8 @@ others_read table named (c ∷ places) before bytes total d h most s ws Last mor
 pub key_reads : (table : NewTable) → AreNamed table.def.columns → (places : List ℕ) → 0 < length places → AllByRecursion (λ c. c < length table.def.columns) places
     → all_differ nat_eq places ≡ true → bytes_at table.def.columns places ≤ 32
     → (s : List Symbol) (d : Draft) (ws : List Word) (Last : Draft → Type 0)
-    → Reads (part parts.MoreChecks ∷ s) (tabled (keyed places (bytes_at table.def.columns places) table) d) ws Last
-    → Reads (part parts.ColumnOrKey ∷ s) (tabled (keyed [] 0 table) d) (key_words table.def.columns places ++ ws) Last
+    → ReadsOn (part parts.MoreChecks ∷ s) (tabled (keyed places (bytes_at table.def.columns places) table) d) ws Last
+    → ReadsOn (part parts.ColumnOrKey ∷ s) (tabled (keyed [] 0 table) d) (key_words table.def.columns places ++ ws) Last
 unfolding key_words place_words
 key_reads table named [] some within differ most s d ws Last more = absurd (omega (arith, some))
 key_reads table named (c ∷ places) some within differ most s d ws Last more =

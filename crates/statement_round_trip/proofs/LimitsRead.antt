@@ -23,7 +23,7 @@ use Rattle.statement_draft.specs.TableEvents.{is_within, limit_came, with_limit}
 use Rattle.statement_draft.specs.declared.draft.Draft.{Draft}
 use Rattle.statement_draft.specs.declared.faults.Reason.TheVariants.{NumberTooWide, OverLimit}
 use Rattle.statement_printer.specs.Printing.{key, sign, limit_words, limits_words, restart_words}
-use Rattle.statement_round_trip.specs.Onward.{Reads}
+use Rattle.statement_round_trip.specs.Onward.{ReadsOn}
 use Rattle.statement_round_trip.proofs.Onward.{from, skip, spelled, step, StepsTo}
 
 abbrev with : Limit → ℕ → Draft → Draft
@@ -58,7 +58,7 @@ semicolon_steps s d first end ts at = refl
 
 -- a limit, and what is behind it
 limit_reads : (l : Limit) (n : ℕ) (s : List Symbol) (d : Draft) (ws : List Word) (Last : Draft → Type 0) → is_within l n ≡ true → is_wide n ≡ false
-    → Reads s (with l n d) ws Last → Reads (part (parts.Limit l) ∷ s) d (limit_words (limit_key l) n ++ ws) Last
+    → ReadsOn s (with l n d) ws Last → ReadsOn (part (parts.Limit l) ∷ s) d (limit_words (limit_key l) n ++ ws) Last
 unfolding limit_words
 limit_reads l n s d ws Last within narrow more =
     step _ d _ _ Last _ _ (key_steps l s d) (λ a.
@@ -90,7 +90,7 @@ some_restart n false h = refl
 
 -- RESTART is printed where it isn't 0
 restart_reads : (n : ℕ) (s : List Symbol) (d : Draft) (ws : List Word) (Last : Draft → Type 0) → n ≤ 10 → d.limits.restart ≡ 0
-    → Reads s (with limits.Restart n d) (key keys.Table ∷ ws) Last → Reads (part (parts.Limit limits.Restart) ∷ s) d (restart_words n ++ key keys.Table ∷ ws) Last
+    → ReadsOn s (with limits.Restart n d) (key keys.Table ∷ ws) Last → ReadsOn (part (parts.Limit limits.Restart) ∷ s) d (restart_words n ++ key keys.Table ∷ ws) Last
 restart_reads zero s d ws Last most none more =
     skip (parts.Limit limits.Restart) s d (key keys.Table) ws Last refl no_restart
     (from s d (with limits.Restart 0 d) (key keys.Table ∷ ws) Last (ap (λ (k : ℕ). with limits.Restart k d) none) more)
@@ -100,7 +100,7 @@ restart_reads (suc n) s d ws Last most none more =
 
 -- the limits, and the tables behind them
 pub limits_read : (l : Limits) → AreLimits l → (s : List Symbol) (d : Draft) (ws : List Word) (Last : Draft → Type 0) → d.limits.restart ≡ 0
-    → Reads s (limited l d) (key keys.Table ∷ ws) Last → Reads (limit_symbols s) d (limits_words l ++ key keys.Table ∷ ws) Last
+    → ReadsOn s (limited l d) (key keys.Table ∷ ws) Last → ReadsOn (limit_symbols s) d (limits_words l ++ key keys.Table ∷ ws) Last
 unfolding limit_words
 limits_read l are s d ws Last none more =
     let q = are.quantum in

@@ -34,7 +34,7 @@ use Rattle.statement_draft.specs.declared.draft.RowOf.TheVariants as row_of
 use Rattle.sql_base.specs.declared.faults.Fault.{Fault}
 use Rattle.statement_draft.specs.declared.faults.Reason.TheVariants.{CheckFails, NotRising, OverLimit, Repeated, WrongType}
 use Rattle.statement_printer.specs.Printing.{key, load_words, name, row_words, sign, table_name, value_words, with_commas}
-use Rattle.statement_round_trip.specs.Onward.{Reads}
+use Rattle.statement_round_trip.specs.Onward.{ReadsOn}
 use Rattle.statement_round_trip.proofs.Apart.{apart_more, apart_none, differing, Apart}
 use Rattle.statement_round_trip.proofs.FollowingRead.{one_more}
 use Rattle.statement_round_trip.proofs.LimitsRead.{semicolon_steps}
@@ -132,8 +132,8 @@ row_is loads t table last rows at minus vs records d clean here few h =
 row_is_read : (loads : List Load) (t : ℕ) (table : TableDef) (last : Option (List ℕ)) (rows : List (List Value)) (at minus : ℕ) (old vs : List Value) (records : ℕ) (d : Draft)
     → d.first ≡ None → Declared d.tables t table → slice_get d.tables t ≡ Some table → records + 1 ≤ 4000 → Follows table last vs
     → (s : List Symbol) (w : Word) (ws : List Word) (Last : Draft → Type 0)
-    → ((at minus : ℕ) → Reads s (loaded loads (loading t (Some (key_of table vs)) (rows ++ vs ∷ [])) (of_table table at minus []) (records + 1) d) (w ∷ ws) Last)
-    → Reads (part parts.Row ∷ grammar.ended ends.LoadRow ∷ s) (loaded loads (loading t last rows) (of_table table at minus old) records d) (row_words vs ++ w ∷ ws) Last
+    → ((at minus : ℕ) → ReadsOn s (loaded loads (loading t (Some (key_of table vs)) (rows ++ vs ∷ [])) (of_table table at minus []) (records + 1) d) (w ∷ ws) Last)
+    → ReadsOn (part parts.Row ∷ grammar.ended ends.LoadRow ∷ s) (loaded loads (loading t last rows) (of_table table at minus old) records d) (row_words vs ++ w ∷ ws) Last
 unfolding row_words
 row_is_read loads t table last rows at minus old [] records d clean is here few h s w ws Last more = absurd (some_value table is.is.key h.fits)
 row_is_read loads t table last rows at minus old (v ∷ vs) records d clean is here few h s w ws Last more =
@@ -182,8 +182,8 @@ behind_others (vs ∷ rows) ws = (sign signs.Comma, _, refl)
 rows_read : (rows before : List (List Value)) (loads : List Load) (t : ℕ) (table : TableDef) (last : Option (List ℕ)) (at minus records : ℕ) (d : Draft)
     → d.first ≡ None → Declared d.tables t table → slice_get d.tables t ≡ Some table → records + length rows ≤ 4000 → AllFollow table last rows
     → (s : List Symbol) (ws : List Word) (Last : Draft → Type 0)
-    → ((last : Option (List ℕ)) (at minus : ℕ) → Reads s (loaded loads (loading t last (before ++ rows)) (of_table table at minus []) (records + length rows) d) (sign signs.Semicolon ∷ ws) Last)
-    → Reads (part parts.MoreLoadRows ∷ s) (loaded loads (loading t last before) (of_table table at minus []) records d) (others rows ++ sign signs.Semicolon ∷ ws) Last
+    → ((last : Option (List ℕ)) (at minus : ℕ) → ReadsOn s (loaded loads (loading t last (before ++ rows)) (of_table table at minus []) (records + length rows) d) (sign signs.Semicolon ∷ ws) Last)
+    → ReadsOn (part parts.MoreLoadRows ∷ s) (loaded loads (loading t last before) (of_table table at minus []) records d) (others rows ++ sign signs.Semicolon ∷ ws) Last
 rows_read [] before loads t table last at minus records d clean is here few fit s ws Last more =
     skip parts.MoreLoadRows s _ (sign signs.Semicolon) ws Last refl no_row
     (from s _ _ _ Last
@@ -218,8 +218,8 @@ load_reads : (loads : List Load) (load : NewLoad) (row : NewRow) (records : ℕ)
     → d.first ≡ None → Declared d.tables t table → slice_get d.tables t ≡ Some table → 0 < length rows → AllFollow table None rows
     → list_any (nat_eq t) (map (λ load. load.table) loads) ≡ false → records + length rows ≤ 4000
     → (s : List Symbol) (w : Word) (ws : List Word) (Last : Draft → Type 0)
-    → ((row : NewRow) → Reads (part parts.Loads ∷ s) (loaded (loads ++ record { table = t; rows = rows } ∷ []) no_load row (records + length rows) d) (w ∷ ws) Last)
-    → Reads (part parts.Loads ∷ s) (loaded loads load row records d) (load_words d.tables (record { table = t; rows = rows }) ++ w ∷ ws) Last
+    → ((row : NewRow) → ReadsOn (part parts.Loads ∷ s) (loaded (loads ++ record { table = t; rows = rows } ∷ []) no_load row (records + length rows) d) (w ∷ ws) Last)
+    → ReadsOn (part parts.Loads ∷ s) (loaded loads load row records d) (load_words d.tables (record { table = t; rows = rows }) ++ w ∷ ws) Last
 load_reads loads load row records d t table [] clean is here some fit new few s w ws Last more = absurd (omega (arith, some))
 load_reads loads load row records d t table (vs ∷ rows) clean is here some fit new few s w ws Last more =
     let n = behind_others rows (w ∷ ws) in
@@ -255,8 +255,8 @@ loads_left : (some before : List Load) (load : NewLoad) (row : NewRow) (records 
     → AllByRecursion (IsLoad d.tables) some → all_differ nat_eq (map (λ load. load.table) some) ≡ true → Apart (map (λ load. load.table) before) (map (λ load. load.table) some)
     → records + sum_by (λ load. length load.rows) some ≤ 4000
     → (s : List Symbol) (ws : List Word) (Last : Draft → Type 0)
-    → ((load : NewLoad) (row : NewRow) → Reads s (loaded (before ++ some) load row (records + sum_by (λ load. length load.rows) some) d) (key keys.Session ∷ ws) Last)
-    → Reads (part parts.Loads ∷ s) (loaded before load row records d) (flat_map (load_words d.tables) some ++ key keys.Session ∷ ws) Last
+    → ((load : NewLoad) (row : NewRow) → ReadsOn s (loaded (before ++ some) load row (records + sum_by (λ load. length load.rows) some) d) (key keys.Session ∷ ws) Last)
+    → ReadsOn (part parts.Loads ∷ s) (loaded before load row records d) (flat_map (load_words d.tables) some ++ key keys.Session ∷ ws) Last
 loads_left [] before load row records d clean declared all differ apart few s ws Last more =
     skip parts.Loads s _ (key keys.Session) ws Last refl no_load_behind
     (from s _ _ _ Last
@@ -291,8 +291,8 @@ loads_left (one ∷ some) before load row records d clean declared all differ ap
 pub loads_read : (some : List Load) (row : NewRow) (d : Draft) → d.first ≡ None → AreDeclared d.tables → AllByRecursion (IsLoad d.tables) some
     → all_differ nat_eq (map (λ load. load.table) some) ≡ true → sum_by (λ load. length load.rows) some ≤ 4000
     → (s : List Symbol) (ws : List Word) (Last : Draft → Type 0)
-    → ((load : NewLoad) (row : NewRow) → Reads s (loaded some load row (sum_by (λ load. length load.rows) some) d) (key keys.Session ∷ ws) Last)
-    → Reads (part parts.Loads ∷ s) (loaded [] no_load row 0 d) (flat_map (load_words d.tables) some ++ key keys.Session ∷ ws) Last
+    → ((load : NewLoad) (row : NewRow) → ReadsOn s (loaded some load row (sum_by (λ load. length load.rows) some) d) (key keys.Session ∷ ws) Last)
+    → ReadsOn (part parts.Loads ∷ s) (loaded [] no_load row 0 d) (flat_map (load_words d.tables) some ++ key keys.Session ∷ ws) Last
 loads_read some row d clean declared all differ few s ws Last more =
     loads_left some [] no_load row 0 d clean declared all differ (apart_none (map (λ load. load.table) some)) (omega (arith, few)) s ws Last (λ load1 row1.
     from s _ _ _ Last (ap (λ (k : ℕ). loaded some load1 row1 k d) (none_before (sum_by (λ load. length load.rows) some))) (more load1 row1))

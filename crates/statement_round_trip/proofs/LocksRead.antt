@@ -26,7 +26,7 @@ use Rattle.statement_draft.specs.declared.draft.Scope.{Scope}
 use Rattle.statement_draft.specs.declared.draft.Scope.TheVariants as scope
 use Rattle.statement_draft.specs.declared.draft.StatementKind.TheVariants as kinds
 use Rattle.statement_printer.specs.Printing.{key, mode_key, words_on}
-use Rattle.statement_round_trip.specs.Onward.{Reads}
+use Rattle.statement_round_trip.specs.Onward.{ReadsOn}
 use Rattle.statement_round_trip.proofs.Beginning.{begun, done, on_table, other_table, Begins}
 use Rattle.statement_round_trip.proofs.LimitsRead.{semicolon_steps}
 use Rattle.statement_round_trip.proofs.Onward.{end_before, from, step, StepsTo}
@@ -35,7 +35,7 @@ use Rattle.statement_round_trip.proofs.TailsRead.{accessed, change_access, tail_
 
 -- what is read behind a statement
 abbrev pub Behind : Statement → Draft → List Symbol → Word → List Word → (Draft → Type 0) → Type 0
-Behind st d s w ws Last = (names : Scope) (e : NewExpression) (row : NewRow) → Reads (part parts.MoreStatements ∷ s) (done st names e row d) (w ∷ ws) Last
+Behind st d s w ws Last = (names : Scope) (e : NewExpression) (row : NewRow) → ReadsOn (part parts.MoreStatements ∷ s) (done st names e row d) (w ∷ ws) Last
 
 table_steps : (s : List Symbol) (d : Draft) → StepsTo (grammar.key keys.Table ∷ s) d (key keys.Table) s (λ place. d)
 unfolding read_from word_read advance all_ended came
@@ -69,7 +69,7 @@ lock_ends t mode place d = refl
 -- LOCK TABLE t IN SHARE MODE ;
 pub lock_reads : (p : Part) (d after : Draft) → Begins p d after → (t : ℕ) (table : TableDef) (mode : Mode) → Declared after.tables t table
     → (s : List Symbol) (w : Word) (ws : List Word) (Last : Draft → Type 0) → Behind (statement.LockTable t mode) after s w ws Last
-    → Reads (part p ∷ s) d (words_on (Some table) (statement.LockTable t mode) ++ w ∷ ws) Last
+    → ReadsOn (part p ∷ s) d (words_on (Some table) (statement.LockTable t mode) ++ w ∷ ws) Last
 lock_reads p d after begins t table mode is s w ws Last more =
     step _ d _ _ Last _ _ (begins kinds.Lock s) (λ a.
     let d1 = begun kinds.Lock a after in
@@ -93,7 +93,7 @@ delete_ends t filter access place at e d = refl
 pub delete_reads : (p : Part) (d after : Draft) → Begins p d after → (t : ℕ) (table : TableDef) (filter : Option Expr) (access : Access)
     → Declared after.tables t table → slice_get after.tables t ≡ Some table → IsFilter table filter → MayChange access
     → (s : List Symbol) (w : Word) (ws : List Word) (Last : Draft → Type 0) → Behind (statement.Delete t filter access) after s w ws Last
-    → Reads (part p ∷ s) d (words_on (Some table) (statement.Delete t filter access) ++ w ∷ ws) Last
+    → ReadsOn (part p ∷ s) d (words_on (Some table) (statement.Delete t filter access) ++ w ∷ ws) Last
 delete_reads p d after begins t table filter access is here suits may s w ws Last more =
     step _ d _ _ Last _ _ (begins kinds.Delete s) (λ a.
     let d1 = begun kinds.Delete a after in

@@ -9,7 +9,7 @@ use Rattle.statement_grammar.specs.declared.symbols.Symbol.{Symbol}
 use Rattle.statement_grammar.specs.declared.symbols.Symbol.TheVariants as symbols
 use Rattle.statement_draft.specs.Judging.{ended, read_from}
 use Rattle.statement_draft.specs.declared.draft.Draft.{Draft}
-use Rattle.statement_round_trip.specs.Onward.{Reads}
+use Rattle.statement_round_trip.specs.Onward.{ReadsOn}
 use Rattle.statement_round_trip.specs.Rereading.{words_in}
 use Rattle.statement_round_trip.proofs.Tokens.{halves, one}
 use Rattle.statement_round_trip.proofs.Steps.{read_end, read_skip}
@@ -27,7 +27,7 @@ StepsTo s d w rest after = (first end : ℕ) (ts : List Token) (at : ℕ) → re
 
 -- a word, and what is read behind it
 pub step : (s : List Symbol) (d : Draft) (w : Word) (ws : List Word) (Last : Draft → Type 0) (rest : List Symbol) (after : ℕ → Draft)
-    → StepsTo s d w rest after → ((place : ℕ) → Reads rest (after place) ws Last) → Reads s d (w ∷ ws) Last
+    → StepsTo s d w rest after → ((place : ℕ) → ReadsOn rest (after place) ws Last) → ReadsOn s d (w ∷ ws) Last
 step s d w ws Last rest after one_step more tokens at h =
     let o = one w ws tokens h in
     let same = ap (λ (l : List Token). read_from s d l at) o.whole
@@ -36,7 +36,7 @@ step s d w ws Last rest after one_step more tokens at h =
 
 -- a part that has no words before the next one
 pub skip : (p : Part) (s : List Symbol) (d : Draft) (w : Word) (ws : List Word) (Last : Draft → Type 0) → may_be_empty p ≡ true → behind p w ≡ None
-    → Reads s d (w ∷ ws) Last → Reads (symbols.Part p ∷ s) d (w ∷ ws) Last
+    → ReadsOn s d (w ∷ ws) Last → ReadsOn (symbols.Part p ∷ s) d (w ∷ ws) Last
 skip p s d w ws Last empty no_word more tokens at h =
     let o = one w ws tokens h in
     let same = ap (λ (l : List Token). read_from (symbols.Part p ∷ s) d l at) o.whole
@@ -45,7 +45,7 @@ skip p s d w ws Last empty no_word more tokens at h =
 
 -- what has ended is noted before the next word
 pub end_before : (e : End) (s : List Symbol) (d : Draft) (w : Word) (ws : List Word) (Last : Draft → Type 0)
-    → Reads s (ended e d) (w ∷ ws) Last → Reads (symbols.Ended e ∷ s) d (w ∷ ws) Last
+    → ReadsOn s (ended e d) (w ∷ ws) Last → ReadsOn (symbols.Ended e ∷ s) d (w ∷ ws) Last
 end_before e s d w ws Last more tokens at h =
     let o = one w ws tokens h in
     let same = ap (λ (l : List Token). read_from (symbols.Ended e ∷ s) d l at) o.whole
@@ -53,18 +53,18 @@ end_before e s d w ws Last more tokens at h =
     subst Last (sym same) (more tokens at h)
 
 -- an equal draft
-pub from : (s : List Symbol) (d e : Draft) (ws : List Word) (Last : Draft → Type 0) → d ≡ e → Reads s e ws Last → Reads s d ws Last
-from s d e ws Last same more = subst (λ (x : Draft). Reads s x ws Last) (sym same) more
+pub from : (s : List Symbol) (d e : Draft) (ws : List Word) (Last : Draft → Type 0) → d ≡ e → ReadsOn s e ws Last → ReadsOn s d ws Last
+from s d e ws Last same more = subst (λ (x : Draft). ReadsOn s x ws Last) (sym same) more
 
 -- equal words
-pub spelled : (s : List Symbol) (d : Draft) (us vs : List Word) (Last : Draft → Type 0) → us ≡ vs → Reads s d vs Last → Reads s d us Last
-spelled s d us vs Last same more = subst (λ (x : List Word). Reads s d x Last) (sym same) more
+pub spelled : (s : List Symbol) (d : Draft) (us vs : List Word) (Last : Draft → Type 0) → us ≡ vs → ReadsOn s d vs Last → ReadsOn s d us Last
+spelled s d us vs Last same more = subst (λ (x : List Word). ReadsOn s d x Last) (sym same) more
 
 -- words that are known to lead somewhere when a word is behind them
 pub through : (a b : List Symbol) (d : Draft) (us : List Word) (v : Word) (vs : List Word) (Last : Draft → Type 0) (after : ℕ → Draft)
     → ((tokens : List Token) (t : Token) (ts : List Token) (at : ℕ) → words_in tokens ≡ us → t.word ≡ v
     → (place : ℕ) × (read_from a d (tokens ++ t ∷ ts) at ≡ read_from b (after place) (t ∷ ts) at))
-    → ((place : ℕ) → Reads b (after place) (v ∷ vs) Last) → Reads a d (us ++ v ∷ vs) Last
+    → ((place : ℕ) → ReadsOn b (after place) (v ∷ vs) Last) → ReadsOn a d (us ++ v ∷ vs) Last
 through a b d us v vs Last after leads more tokens at h =
     let q = halves us (v ∷ vs) tokens h in
     let o = one v vs q.rest q.rest_words in

@@ -27,7 +27,7 @@ use Rattle.statement_draft.specs.declared.draft.Draft.{Draft}
 use Rattle.statement_draft.specs.declared.draft.NewExpression.{NewExpression}
 use Rattle.statement_draft.specs.declared.draft.Scope.{Scope}
 use Rattle.statement_draft.specs.declared.draft.Scope.TheVariants as scopes
-use Rattle.statement_printer.specs.Printing.{inside, sign}
+use Rattle.statement_printer.specs.Printing.{in_parentheses, sign}
 use Rattle.statement_round_trip.specs.Rereading.{EndsExpression, words_in, whole_stack, ReadAs}
 use Rattle.statement_round_trip.proofs.Steps.{read_end, read_skip, read_part, read_fixed, read_number}
 use Rattle.statement_round_trip.proofs.Tokens.{halves, no_tokens, one}
@@ -121,7 +121,7 @@ unfolding behind
 close_ends = record { product = refl; sum = refl; compare = refl; both = refl; either = refl }
 
 abbrev closed : Operand → Draft → Option Fault → ℕ → Draft
-closed x d first inside = record d { first = first; expression = record d.expression { operands = x ∷ d.expression.operands; inside = inside } }
+closed x d first in_parentheses = record d { first = first; expression = record d.expression { operands = x ∷ d.expression.operands; in_parentheses = in_parentheses } }
 
 closed_same : (x : Operand) (at : ℕ) (d : Draft) → d.expression.inside < 64 → ended ends.Inside (with_operand x (opened at d)) ≡ with_operand x d
 unfolding ended
@@ -131,7 +131,7 @@ closed_same x at d room =
     ap (λ (b : Bool). closed x d (noted b OverLimit at d.first) (min 64 d.expression.inside + 1 - 1)) below
     ∙ ap (closed x d d.first) same
 
-pub stands_inside : (columns : List Column) (words : List Word) (depth : ℕ) (x : Operand) → ReadAs columns words depth x → Stands columns (inside words) depth x
+pub stands_inside : (columns : List Column) (words : List Word) (depth : ℕ) (x : Operand) → ReadAs columns words depth x → Stands columns (in_parentheses words) depth x
 stands_inside columns words depth x reads p rest takes s d tokens t ts at scope room h =
     let o = one (sign signs.Open) (words ++ sign signs.Close ∷ []) tokens h in
     let q = halves words (sign signs.Close ∷ []) o.rest o.words in

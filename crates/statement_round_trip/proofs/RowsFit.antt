@@ -14,7 +14,7 @@ use Rattle.sql_base.specs.declared.values.Value.TheVariants as value
 use Rattle.statement_draft.specs.declared.draft.RowOf.{RowOf}
 use Rattle.statement_draft.specs.declared.draft.RowOf.TheVariants as row_of
 use Rattle.statement_draft.specs.declared.faults.Reason.TheVariants.{TextTooLong}
-use Rattle.statement_printer.specs.Printing.{kept, value_words}
+use Rattle.statement_printer.specs.Printing.{length_unblanked, value_words}
 use Rattle.statement_round_trip.proofs.Padding.{padded_back}
 use Rattle.statement_round_trip.proofs.RowsRead.{AllFit, Fits, IsShort, PrintsAs}
 use Rattle.sql_base.proofs.Truths.{both_hold}
@@ -22,7 +22,7 @@ use Rattle.sql_base.proofs.Truths.{both_hold}
 -- a value as a record's literal: a text without its last blanks
 abbrev pub unpadded : Value → Value
 unpadded (value.Int n) = value.Int n
-unpadded (value.Text text) = value.Text (take (kept text) text)
+unpadded (value.Text text) = value.Text (take (length_unblanked text) text)
 
 pub prints_unpadded : PrintsAs value_words unpadded
 prints_unpadded (value.Int n) = refl
@@ -33,14 +33,14 @@ take_short zero text = omega arith
 take_short (suc n) [] = omega arith
 take_short (suc n) (b ∷ bs) = let h = take_short n bs in omega (arith, h)
 
-no_longer : (n : ℕ) (text : List ℕ) → length text ≡ n → cond (nat_lt n (length (take (kept text) text))) (Some TextTooLong) None ≡ None
+no_longer : (n : ℕ) (text : List ℕ) → length text ≡ n → cond (nat_lt n (length (take (length_unblanked text) text))) (Some TextTooLong) None ≡ None
 no_longer n text h =
-    let short = take_short (kept text) text in
-    let test : nat_lt n (length (take (kept text) text)) ≡ false = grind (arith, nat_tests, h, short) in
+    let short = take_short (length_unblanked text) text in
+    let test : nat_lt n (length (take (length_unblanked text) text)) ≡ false = grind (arith, nat_tests, h, short) in
     ap (λ (b : Bool). cond b (Some TextTooLong) None) test
 
-fills_up : (n : ℕ) (text : List ℕ) → length text ≡ n → value.Text (padded n (take (kept text) text)) ≡ value.Text text
-fills_up n text h = ap (λ (k : ℕ). value.Text (padded k (take (kept text) text))) (sym h) ∙ ap (λ (t : List ℕ). value.Text t) (padded_back text)
+fills_up : (n : ℕ) (text : List ℕ) → length text ≡ n → value.Text (padded n (take (length_unblanked text) text)) ≡ value.Text text
+fills_up n text h = ap (λ (k : ℕ). value.Text (padded k (take (length_unblanked text) text))) (sym h) ∙ ap (λ (t : List ℕ). value.Text t) (padded_back text)
 
 pub as_long : (n : ℕ) (text : List ℕ) → ((length text == n) && is_printable text) ≡ true → length text ≡ n
 as_long n text h = let both = both_hold (length text == n) (is_printable text) h in grind (arith, nat_tests, both.0)

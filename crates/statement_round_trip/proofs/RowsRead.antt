@@ -18,15 +18,15 @@ use Rattle.statement_grammar.specs.declared.symbols.Symbol.{Symbol}
 use Rattle.statement_draft.specs.Faults.{noted, noted_as}
 use Rattle.statement_draft.specs.Judging.{all_ended, came, read_from, word_read}
 use Rattle.statement_draft.specs.Names.{is_wide}
-use Rattle.statement_draft.specs.RowEvents.{filled, literal_came, literal_fault, negative}
+use Rattle.statement_draft.specs.RowEvents.{fitted, literal_came, literal_fault, negative}
 use Rattle.statement_draft.specs.declared.draft.Draft.{Draft}
 use Rattle.statement_draft.specs.declared.draft.NewRow.{NewRow}
 use Rattle.statement_draft.specs.declared.draft.RowOf.{RowOf}
 use Rattle.statement_draft.specs.declared.faults.Reason.{Reason}
 use Rattle.statement_draft.specs.declared.faults.Reason.TheVariants.{NumberTooWide}
 use Rattle.statement_printer.proofs.Joining.{words_of_pos}
-use Rattle.statement_printer.specs.Printing.{inside, literal_words, sign, with_commas}
-use Rattle.statement_round_trip.specs.Onward.{Reads}
+use Rattle.statement_printer.specs.Printing.{in_parentheses, literal_words, sign, with_commas}
+use Rattle.statement_round_trip.specs.Onward.{ReadsOn}
 use Rattle.statement_round_trip.proofs.Onward.{from, skip, spelled, step, StepsTo}
 
 -- a row that is being read
@@ -39,7 +39,7 @@ rowed of ks at minus vs d = record d { row = new_row of ks at minus vs }
 -- a literal has no fault in its column, and is kept as this value
 pub record Fits (of : RowOf) (k : ColumnKind) (literal v : Value) : Type 0 where
   pub fault : literal_fault of (Some k) literal ≡ None
-  pub fills : filled of (Some k) literal ≡ v
+  pub fills : fitted of (Some k) literal ≡ v
 
 abbrev pub IsShort : Value → Type 0
 IsShort (value.Int n) = in_i64 n ≡ true
@@ -51,8 +51,8 @@ came_with of ks a m before d at fault v = record d { first = noted_as fault at d
 literal_is : (of : RowOf) (ks : List ColumnKind) (a m : ℕ) (before : List Value) (d : Draft) (k : ColumnKind) (literal v : Value) (at : ℕ)
     → slice_get ks (length before) ≡ Some k → Fits of k literal v → literal_came literal at (rowed of ks a m before d) ≡ rowed of ks a m (before ++ v ∷ []) d
 literal_is of ks a m before d k literal v at here fits =
-    ap (λ (o : Option ColumnKind). came_with of ks a m before d at (literal_fault of o literal) (filled of o literal)) here
-    ∙ ap (λ (f : Option Reason). came_with of ks a m before d at f (filled of (Some k) literal)) fits.fault
+    ap (λ (o : Option ColumnKind). came_with of ks a m before d at (literal_fault of o literal) (fitted of o literal)) here
+    ∙ ap (λ (f : Option Reason). came_with of ks a m before d at f (fitted of (Some k) literal)) fits.fault
     ∙ ap (λ (x : Value). came_with of ks a m before d at None x) fits.fills
 
 abbrev number_with : ℕ → ℕ → Draft → Bool → Draft
@@ -88,7 +88,7 @@ least n h = grind (arith, nat_tests)
 -- a literal, and what is behind it
 literal_reads : (of : RowOf) (ks : List ColumnKind) (a m : ℕ) (before : List Value) (d : Draft) (k : ColumnKind) (literal v : Value)
     → slice_get ks (length before) ≡ Some k → Fits of k literal v → IsShort literal → (s : List Symbol) (ws : List Word) (Last : Draft → Type 0)
-    → ((n : ℕ) → Reads s (rowed of ks a n (before ++ v ∷ []) d) ws Last) → Reads (part parts.Literal ∷ s) (rowed of ks a m before d) (literal_words literal ++ ws) Last
+    → ((n : ℕ) → ReadsOn s (rowed of ks a n (before ++ v ∷ []) d) ws Last) → ReadsOn (part parts.Literal ∷ s) (rowed of ks a m before d) (literal_words literal ++ ws) Last
 literal_reads of ks a m before d k (value.Text text) v here fits short s ws Last more =
     step _ _ _ _ Last _ _ (text_steps text s (rowed of ks a m before d)) (λ place.
     from _ _ _ ws Last (literal_is of ks a m before d k (value.Text text) v place here fits) (more m))
@@ -127,8 +127,8 @@ others words vs = flat_map (λ y. sign signs.Comma ∷ words y) vs
 
 others_read : (words : Value → List Word) (literal : Value → Value) → PrintsAs words literal → (of : RowOf) (ks : List ColumnKind) (a m : ℕ) (before vs : List Value) (d : Draft)
     → AllFit of literal ks before vs → (s : List Symbol) (ws : List Word) (Last : Draft → Type 0)
-    → ((n : ℕ) → Reads (part parts.MoreLiterals ∷ s) (rowed of ks a n (before ++ vs) d) ws Last)
-    → Reads (part parts.MoreLiterals ∷ s) (rowed of ks a m before d) (others words vs ++ ws) Last
+    → ((n : ℕ) → ReadsOn (part parts.MoreLiterals ∷ s) (rowed of ks a n (before ++ vs) d) ws Last)
+    → ReadsOn (part parts.MoreLiterals ∷ s) (rowed of ks a m before d) (others words vs ++ ws) Last
 others_read words literal as_literal of ks a m before [] d fit s ws Last more = from _ _ _ ws Last (ap (λ (l : List Value). rowed of ks a m l d) (sym (append-nil before))) (more m)
 others_read words literal as_literal of ks a m before (v ∷ vs) d fit s ws Last more =
     let d1 = rowed of ks a m before d in
@@ -155,8 +155,8 @@ close_steps s d first end ts at = refl
 -- ( 1 , 'a' , .. )
 pub row_reads : (words : Value → List Word) (literal : Value → Value) → PrintsAs words literal → (of : RowOf) (ks : List ColumnKind) (a m : ℕ) (old : List Value) (v : Value) (vs : List Value) (d : Draft)
     → AllFit of literal ks [] (v ∷ vs) → (s : List Symbol) (ws : List Word) (Last : Draft → Type 0)
-    → ((at minus : ℕ) → Reads s (rowed of ks at minus (v ∷ vs) d) ws Last)
-    → Reads (part parts.Row ∷ s) (rowed of ks a m old d) (inside (with_commas words (v ∷ vs)) ++ ws) Last
+    → ((at minus : ℕ) → ReadsOn s (rowed of ks at minus (v ∷ vs) d) ws Last)
+    → ReadsOn (part parts.Row ∷ s) (rowed of ks a m old d) (in_parentheses (with_commas words (v ∷ vs)) ++ ws) Last
 row_reads words literal as_literal of ks a m old v vs d fit s ws Last more =
     let f = fit.0 in
     step _ (rowed of ks a m old d) _ _ Last _ _ (open_steps s (rowed of ks a m old d)) (λ place.

@@ -18,7 +18,7 @@ use Rattle.statement_draft.specs.declared.draft.NewRow.{NewRow}
 use Rattle.statement_draft.specs.declared.draft.Scope.{Scope}
 use Rattle.statement_printer.specs.Bytes.{written}
 use Rattle.statement_printer.specs.Printing.{key, limits_words, load_words, printed, script_words, session_words, table_words}
-use Rattle.statement_round_trip.specs.Onward.{Reads}
+use Rattle.statement_round_trip.specs.Onward.{ReadsOn}
 use Rattle.statement_round_trip.specs.Rereading.{words_in}
 use Rattle.statement_round_trip.specs.Respelling.{tokens_at}
 use Rattle.statement_round_trip.specs.WholeScripts.{inserts, statements_in, MayBeRead, PrintedIsSpelled}
@@ -70,7 +70,7 @@ abbrev with_tables : Script → NewRow → Scope → NewExpression → Draft
 with_tables script row names e = declared script.tables row names e (limited script.limits empty)
 
 sessions_part : (script : Script) → MayBeRead script → AreDeclared script.tables → (load : NewLoad) (row old : NewRow) (names : Scope) (e : NewExpression)
-    → Reads (part parts.Session ∷ []) (loaded script.loads load row (sum_by (λ load. length load.rows) script.loads) (with_tables script old names e))
+    → ReadsOn (part parts.Session ∷ []) (loaded script.loads load row (sum_by (λ load. length load.rows) script.loads) (with_tables script old names e))
     (flat_map (session_words script.tables) script.sessions) (Says script)
 sessions_part script may known load row old names e =
     let is = may.rules in
@@ -82,7 +82,7 @@ sessions_part script may known load row old names e =
     sessions_read script.sessions x d r known is.some_sessions.0 is.some_sessions.1 is.some_works is.statements space (Says script) (λ y q w n. (refl, refl))
 
 loads_part : (script : Script) → MayBeRead script → AreDeclared script.tables → (row : NewRow) (names : Scope) (e : NewExpression)
-    → Reads (part parts.Loads ∷ part parts.Session ∷ []) (with_tables script row names e)
+    → ReadsOn (part parts.Loads ∷ part parts.Session ∷ []) (with_tables script row names e)
     (flat_map (load_words script.tables) script.loads ++ flat_map (session_words script.tables) script.sessions) (Says script)
 loads_part script may known row names e =
     let is = may.rules in
@@ -92,7 +92,7 @@ loads_part script may known row names e =
     (loads_read script.loads row (with_tables script row names e) refl known is.loads is.loads_differ few _ b.0 (Says script) (λ load new.
     spelled _ _ _ _ (Says script) (sym b.1) (sessions_part script may known load new row names e)))
 
-script_part : (script : Script) → MayBeRead script → AreDeclared script.tables → Reads grammar.script empty (script_words script) (Says script)
+script_part : (script : Script) → MayBeRead script → AreDeclared script.tables → ReadsOn grammar.script empty (script_words script) (Says script)
 script_part script may known =
     let is = may.rules in
     let tables = flat_map table_words script.tables in

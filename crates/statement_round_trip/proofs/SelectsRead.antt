@@ -30,8 +30,8 @@ use Rattle.statement_draft.specs.declared.draft.Scope.TheVariants as scope
 use Rattle.statement_draft.specs.declared.draft.StatementKind.TheVariants as kinds
 use Rattle.statement_draft.specs.declared.faults.Fault.{Fault}
 use Rattle.statement_draft.specs.declared.faults.Reason.TheVariants.{OverLimit, Repeated}
-use Rattle.statement_printer.specs.Printing.{column_words, key, name, name_of, sign, with_commas, words_on}
-use Rattle.statement_round_trip.specs.Onward.{Reads}
+use Rattle.statement_printer.specs.Printing.{column_words, key, name, name_word, sign, with_commas, words_on}
+use Rattle.statement_round_trip.specs.Onward.{ReadsOn}
 use Rattle.statement_round_trip.specs.Rereading.{AreNamed}
 use Rattle.statement_round_trip.proofs.Apart.{apart_more, apart_none, differing, Apart}
 use Rattle.statement_round_trip.proofs.Beginning.{begun, done, on_table, table_is, Begins}
@@ -80,14 +80,14 @@ others columns cs = flat_map (λ y. sign signs.Comma ∷ column_words columns y)
 
 others_read : (columns : List Column) → AreNamed columns → (cs before : List ℕ) (ns : List NameAt) → AllByRecursion (λ c. c < length columns) cs → Name columns before ns
     → (s : List Symbol) (d : Draft) (ws : List Word) (Last : Draft → Type 0)
-    → ((ms : List NameAt) → Name columns (before ++ cs) ms → Reads (part parts.MoreSelected ∷ s) (with_names ms d) ws Last)
-    → Reads (part parts.MoreSelected ∷ s) (with_names ns d) (others columns cs ++ ws) Last
+    → ((ms : List NameAt) → Name columns (before ++ cs) ms → ReadsOn (part parts.MoreSelected ∷ s) (with_names ms d) ws Last)
+    → ReadsOn (part parts.MoreSelected ∷ s) (with_names ns d) (others columns cs ++ ws) Last
 others_read columns named [] before ns within here s d ws Last more = more ns (subst (λ (l : List ℕ). Name columns l ns) (sym (append-nil before)) here)
 others_read columns named (c ∷ cs) before ns within here s d ws Last more =
     let found = some-at columns c within.0 in
     let column = found.0 in
     let is = named c column found.1 in
-    spelled _ (with_names ns d) _ _ Last (ap (λ (o : Option Column). sign signs.Comma ∷ name_of o ∷ (others columns cs ++ ws)) found.1)
+    spelled _ (with_names ns d) _ _ Last (ap (λ (o : Option Column). sign signs.Comma ∷ name_word o ∷ (others columns cs ++ ws)) found.1)
     (step _ (with_names ns d) _ _ Last _ _ (comma_steps s (with_names ns d)) (λ a.
     step _ (with_names ns d) _ _ Last _ _ (next_steps column.name _ (with_names ns d)) (λ b.
     from _ _ (with_names (ns ++ at_place column.name b ∷ []) d) _ Last (ap (noted_name column.name b (with_names ns d)) is.1)
@@ -97,13 +97,13 @@ others_read columns named (c ∷ cs) before ns within here s d ws Last more =
 -- the list, and what is behind it
 list_reads : (columns : List Column) → AreNamed columns → (c : ℕ) (cs : List ℕ) → AllByRecursion (λ c. c < length columns) (c ∷ cs)
     → (s : List Symbol) (d : Draft) (ws : List Word) (Last : Draft → Type 0) → d.statement.names ≡ []
-    → ((ms : List NameAt) → Name columns (c ∷ cs) ms → Reads (part parts.MoreSelected ∷ s) (with_names ms d) ws Last)
-    → Reads (part parts.Selected ∷ s) d (with_commas (column_words columns) (c ∷ cs) ++ ws) Last
+    → ((ms : List NameAt) → Name columns (c ∷ cs) ms → ReadsOn (part parts.MoreSelected ∷ s) (with_names ms d) ws Last)
+    → ReadsOn (part parts.Selected ∷ s) d (with_commas (column_words columns) (c ∷ cs) ++ ws) Last
 list_reads columns named c cs within s d ws Last none more =
     let found = some-at columns c within.0 in
     let column = found.0 in
     let is = named c column found.1 in
-    spelled _ d _ _ Last (ap (λ (o : Option Column). name_of o ∷ (others columns cs ++ ws)) found.1)
+    spelled _ d _ _ Last (ap (λ (o : Option Column). name_word o ∷ (others columns cs ++ ws)) found.1)
     (step _ d _ _ Last _ _ (first_steps column.name s d) (λ a.
     from _ _ (with_names (at_place column.name a ∷ []) d) _ Last
     (ap (noted_name column.name a d) is.1 ∙ ap (λ (l : List NameAt). with_names (l ++ at_place column.name a ∷ []) d) none)
@@ -170,7 +170,7 @@ select_ends t cs ms filter access place at e d = refl
 pub select_reads : (p : Part) (d after : Draft) → Begins p d after → (t : ℕ) (table : TableDef) (cs : List ℕ) (filter : Option Expr) (access : Access)
     → Declared after.tables t table → slice_get after.tables t ≡ Some table → AreColumns table cs → IsFilter table filter
     → (s : List Symbol) (w : Word) (ws : List Word) (Last : Draft → Type 0) → Behind (statement.Select t cs filter access) after s w ws Last
-    → Reads (part p ∷ s) d (words_on (Some table) (statement.Select t cs filter access) ++ w ∷ ws) Last
+    → ReadsOn (part p ∷ s) d (words_on (Some table) (statement.Select t cs filter access) ++ w ∷ ws) Last
 select_reads p d after begins t table [] filter access is here are suits s w ws Last more = absurd (omega (arith, are.some))
 select_reads p d after begins t table (c ∷ cs) filter access is here are suits s w ws Last more =
     step _ d _ _ Last _ _ (begins kinds.Select s) (λ a.

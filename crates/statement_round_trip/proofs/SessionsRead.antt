@@ -31,7 +31,7 @@ use Rattle.statement_draft.specs.declared.draft.NewStatement.{NewStatement}
 use Rattle.statement_draft.specs.declared.draft.Scope.{Scope}
 use Rattle.statement_draft.specs.declared.faults.Reason.TheVariants.{OverLimit}
 use Rattle.statement_printer.specs.Printing.{end_key, key, session_words, sign, statement_words, work_words}
-use Rattle.statement_round_trip.specs.Onward.{Reads}
+use Rattle.statement_round_trip.specs.Onward.{ReadsOn}
 use Rattle.statement_round_trip.specs.WholeScripts.{inserts, record_of, statements_in}
 use Rattle.statement_round_trip.proofs.AtTheEnd.{at_last, end_then, skip_then, Skips}
 use Rattle.statement_round_trip.proofs.FollowingRead.{not_above, one_more, records_of}
@@ -109,8 +109,8 @@ one_work_reads : (p : Part) (x : Spent) (d : Draft) (done : List (List Work)) (n
     → AreDeclared d.tables → (work : Work) → AllByRecursion (IsStatement d.tables) work.statements
     → Space (r + sum_by record_of work.statements) (w + 1) (n + length work.statements) d
     → (s : List Symbol) (ws : List Word) (Last : Draft → Type 0)
-    → ((x : Spent) → Reads (part parts.MoreWorks ∷ s) (progressed x d done (now ++ work ∷ []) (r + sum_by record_of work.statements) (w + 1) (n + length work.statements)) ws Last)
-    → Reads (part p ∷ s) (progressed x d done now r w n) (work_words d.tables work ++ ws) Last
+    → ((x : Spent) → ReadsOn (part parts.MoreWorks ∷ s) (progressed x d done (now ++ work ∷ []) (r + sum_by record_of work.statements) (w + 1) (n + length work.statements)) ws Last)
+    → ReadsOn (part p ∷ s) (progressed x d done now r w n) (work_words d.tables work ++ ws) Last
 one_work_reads p x d done now r w n opens declared work all space s ws Last more =
     let sts = work.statements in
     let d1 = progressed x d done now r w n in
@@ -129,8 +129,8 @@ none_more n = omega arith
 works_read : (xs : List Work) (x : Spent) (d : Draft) (done : List (List Work)) (now : List Work) (r w n : ℕ) → AreDeclared d.tables
     → AllByRecursion (λ work. AllByRecursion (IsStatement d.tables) work.statements) xs → Space (r + inserts xs) (w + length xs) (n + statements_in xs) d
     → (s : List Symbol) (ws : List Word) (Last : Draft → Type 0) → Skips parts.MoreWorks ws
-    → ((x : Spent) → Reads s (progressed x d done (now ++ xs) (r + inserts xs) (w + length xs) (n + statements_in xs)) ws Last)
-    → Reads (part parts.MoreWorks ∷ s) (progressed x d done now r w n) (flat_map (work_words d.tables) xs ++ ws) Last
+    → ((x : Spent) → ReadsOn s (progressed x d done (now ++ xs) (r + inserts xs) (w + length xs) (n + statements_in xs)) ws Last)
+    → ReadsOn (part parts.MoreWorks ∷ s) (progressed x d done now r w n) (flat_map (work_words d.tables) xs ++ ws) Last
 works_read [] x d done now r w n declared all space s ws Last other more =
     skip_then parts.MoreWorks s _ ws Last refl other
     (from s _ _ ws Last (same_progress x d done _ _ _ _ _ _ _ _ (sym (append-nil now)) (none_more r) (none_more w) (none_more n)) (more x))
@@ -191,8 +191,8 @@ one_session_reads : (p : Part) → Starts p → (x : Spent) (d : Draft) (done : 
     → length done < 8 → (works : List Work) → 0 < length works → AllByRecursion (λ work. AllByRecursion (IsStatement d.tables) work.statements) works
     → Space (r + inserts works) (w + length works) (n + statements_in works) d
     → (s : List Symbol) (ws : List Word) (Last : Draft → Type 0) → Skips parts.MoreWorks ws
-    → ((x : Spent) → Reads (part parts.MoreSessions ∷ s) (progressed x d (done ++ works ∷ []) [] (r + inserts works) (w + length works) (n + statements_in works)) ws Last)
-    → Reads (part p ∷ s) (progressed x d done now r w n) (session_words d.tables works ++ ws) Last
+    → ((x : Spent) → ReadsOn (part parts.MoreSessions ∷ s) (progressed x d (done ++ works ∷ []) [] (r + inserts works) (w + length works) (n + statements_in works)) ws Last)
+    → ReadsOn (part p ∷ s) (progressed x d done now r w n) (session_words d.tables works ++ ws) Last
 one_session_reads p starts x d done now r w n declared most [] some all space s ws Last other more = absurd (omega (arith, some))
 one_session_reads p starts x d done now r w n declared most (work ∷ xs) some all space s ws Last other more =
     let here = sum_by record_of work.statements in
@@ -226,7 +226,7 @@ others_read : (sessions : List (List Work)) (x : Spent) (d : Draft) (done : List
     → Space (r + sum_by inserts sessions) (w + sum_by (λ works. length works) sessions) (n + sum_by statements_in sessions) d
     → (Last : Draft → Type 0)
     → ((x : Spent) (r w n : ℕ) → Last (progressed x d (done ++ sessions) [] r w n))
-    → Reads (part parts.MoreSessions ∷ []) (progressed x d done [] r w n) (flat_map (session_words d.tables) sessions) Last
+    → ReadsOn (part parts.MoreSessions ∷ []) (progressed x d done [] r w n) (flat_map (session_words d.tables) sessions) Last
 others_read [] x d done r w n declared most some all space Last more =
     skip_then parts.MoreSessions [] _ [] Last refl tt
     (at_last _ Last (subst (λ (l : List (List Work)). Last (progressed x d l [] r w n)) (append-nil done) (more x r w n)))
@@ -250,7 +250,7 @@ pub sessions_read : (sessions : List (List Work)) (x : Spent) (d : Draft) (r : �
     → AllByRecursion (λ works. AllByRecursion (λ work. AllByRecursion (IsStatement d.tables) work.statements) works) sessions
     → Space (r + sum_by inserts sessions) (sum_by (λ works. length works) sessions) (sum_by statements_in sessions) d
     → (Last : Draft → Type 0) → ((x : Spent) (r w n : ℕ) → Last (progressed x d sessions [] r w n))
-    → Reads (part parts.Session ∷ []) (progressed x d [] [] r 0 0) (flat_map (session_words d.tables) sessions) Last
+    → ReadsOn (part parts.Session ∷ []) (progressed x d [] [] r 0 0) (flat_map (session_words d.tables) sessions) Last
 sessions_read [] x d r declared one most some all space Last more = absurd (omega (arith, one))
 sessions_read (works ∷ sessions) x d r declared one most some all space Last more =
     let a : sum_by inserts (works ∷ sessions) ≡ inserts works + sum_by inserts sessions = sum_by-cons inserts works sessions in

@@ -11,7 +11,7 @@ use Rattle.statement_grammar.specs.declared.symbols.Part.{Part}
 use Rattle.statement_grammar.specs.declared.symbols.Symbol.{Symbol}
 use Rattle.statement_draft.specs.declared.draft.Draft.{Draft}
 use Rattle.statement_printer.specs.Printing.{statement_words, words_on}
-use Rattle.statement_round_trip.specs.Onward.{Reads}
+use Rattle.statement_round_trip.specs.Onward.{ReadsOn}
 use Rattle.statement_round_trip.proofs.Beginning.{Begins}
 use Rattle.statement_round_trip.proofs.InsertsRead.{insert_reads, recorded, FewRecords}
 use Rattle.statement_round_trip.proofs.LocksRead.{delete_reads, lock_reads, Behind}
@@ -33,7 +33,7 @@ HasRoom st d = Unit {0}
 on_its_table : (p : Part) (d after : Draft) → Begins p d after → (st : Statement) (table : TableDef) → Declared after.tables (table_of st) table
     → slice_get after.tables (table_of st) ≡ Some table → SuitsTable table st → HasRoom st after
     → (s : List Symbol) (w : Word) (ws : List Word) (Last : Draft → Type 0) → Behind st (with_record st after) s w ws Last
-    → Reads (part p ∷ s) d (words_on (Some table) st ++ w ∷ ws) Last
+    → ReadsOn (part p ∷ s) d (words_on (Some table) st ++ w ∷ ws) Last
 on_its_table p d after begins (statement.Select t columns filter access) table is here suits room s w ws Last more =
     select_reads p d after begins t table columns filter access is here suits.0 suits.1 s w ws Last more
 on_its_table p d after begins (statement.Update t sets filter access) table is here suits room s w ws Last more =
@@ -48,7 +48,7 @@ on_its_table p d after begins (statement.LockTable t mode) table is here suits r
 -- a statement of the script, and what is behind it
 pub statement_reads : (p : Part) (d after : Draft) → Begins p d after → AreDeclared after.tables → (st : Statement) → IsStatement after.tables st → HasRoom st after
     → (s : List Symbol) (w : Word) (ws : List Word) (Last : Draft → Type 0) → Behind st (with_record st after) s w ws Last
-    → Reads (part p ∷ s) d (statement_words after.tables st ++ w ∷ ws) Last
+    → ReadsOn (part p ∷ s) d (statement_words after.tables st ++ w ∷ ws) Last
 statement_reads p d after begins declared st is room s w ws Last more =
     spelled _ d _ _ Last (ap (λ (o : Option TableDef). words_on o st ++ w ∷ ws) is.1)
     (on_its_table p d after begins st is.0 (declared (table_of st) is.0 is.1) is.1 is.2 room s w ws Last more)

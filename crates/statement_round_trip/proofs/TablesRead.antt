@@ -32,7 +32,7 @@ use Rattle.statement_draft.specs.declared.draft.NewRow.{NewRow}
 use Rattle.statement_draft.specs.declared.draft.Scope.{Scope}
 use Rattle.statement_draft.specs.declared.faults.Reason.TheVariants.{OverLimit, Repeated}
 use Rattle.statement_printer.specs.Printing.{check_words, declaration, declared_words, firsts_words, key, key_words, name, sign, table_words}
-use Rattle.statement_round_trip.specs.Onward.{Reads}
+use Rattle.statement_round_trip.specs.Onward.{ReadsOn}
 use Rattle.statement_round_trip.proofs.AtTheEnd.{end_then}
 use Rattle.statement_round_trip.proofs.ChecksRead.{checking, checks_read, front_of}
 use Rattle.statement_round_trip.proofs.ColumnsRead.{columned, columns_read, open_steps, tabled, MayFollow}
@@ -157,8 +157,8 @@ in_parts table ws =
 -- TABLE t ( k INT , .. ) FIRST KEY .. ; and what is behind it
 table_reads : (p : Part) → Starts p → (table : TableDef) → IsTable table → (d : Draft) → d.first ≡ None → length d.tables < 4 → parts_of d.tables + length table.firsts + 1 ≤ 16
     → New (map (λ table. table.name) d.tables) table.name → (s : List Symbol) (ws : List Word) (Last : Draft → Type 0)
-    → ((row : NewRow) (names : Scope) (e : NewExpression) → Reads (part parts.MoreTables ∷ s) (declared (d.tables ++ table ∷ []) row names e d) ws Last)
-    → Reads (part p ∷ s) d (table_words table ++ ws) Last
+    → ((row : NewRow) (names : Scope) (e : NewExpression) → ReadsOn (part parts.MoreTables ∷ s) (declared (d.tables ++ table ∷ []) row names e d) ws Last)
+    → ReadsOn (part p ∷ s) d (table_words table ++ ws) Last
 table_reads p starts table is d clean few fits new s ws Last more =
     let tables : nat_le 4 (length d.tables) ≡ false = grind (arith, nat_tests, few) in
     let room : nat_le 16 (parts_of d.tables) ≡ false = under (parts_of d.tables) (omega (arith, fits)) in
@@ -223,8 +223,8 @@ BehindTables w = behind parts.MoreTables w ≡ None
 
 others_read : (rest before : List TableDef) (row : NewRow) (names : Scope) (e : NewExpression) (d : Draft) → AllByRecursion IsTable rest → d.first ≡ None → TablesFollow before rest
     → (s : List Symbol) (w : Word) (ws : List Word) (Last : Draft → Type 0) → BehindTables w
-    → ((row : NewRow) (names : Scope) (e : NewExpression) → Reads s (declared (before ++ rest) row names e d) (w ∷ ws) Last)
-    → Reads (part parts.MoreTables ∷ s) (declared before row names e d) (flat_map table_words rest ++ w ∷ ws) Last
+    → ((row : NewRow) (names : Scope) (e : NewExpression) → ReadsOn s (declared (before ++ rest) row names e d) (w ∷ ws) Last)
+    → ReadsOn (part parts.MoreTables ∷ s) (declared before row names e d) (flat_map table_words rest ++ w ∷ ws) Last
 others_read [] before row names e d all clean h s w ws Last other more =
     skip parts.MoreTables s _ w ws Last refl other
     (from s _ _ (w ∷ ws) Last (ap (λ (l : List TableDef). declared l row names e d) (sym (append-nil before))) (more row names e))
@@ -239,8 +239,8 @@ others_read (table ∷ rest) before row names e d all clean h s w ws Last other 
 pub tables_read : (tables : List TableDef) (d : Draft) → 0 < length tables → length tables ≤ 4 → AllByRecursion IsTable tables → parts_of tables ≤ 16
     → all_differ bytes_eq (map (λ table. table.name) tables) ≡ true → d.first ≡ None → d.tables ≡ []
     → (s : List Symbol) (w : Word) (ws : List Word) (Last : Draft → Type 0) → BehindTables w
-    → ((row : NewRow) (names : Scope) (e : NewExpression) → Reads s (declared tables row names e d) (w ∷ ws) Last)
-    → Reads (part parts.Table ∷ s) d (flat_map table_words tables ++ w ∷ ws) Last
+    → ((row : NewRow) (names : Scope) (e : NewExpression) → ReadsOn s (declared tables row names e d) (w ∷ ws) Last)
+    → ReadsOn (part parts.Table ∷ s) d (flat_map table_words tables ++ w ∷ ws) Last
 tables_read [] d some most all few_parts differ clean none s w ws Last other more = absurd (omega (arith, some))
 tables_read (table ∷ rest) d some most all few_parts differ clean none s w ws Last other more =
     let h : TablesFollow [] (table ∷ rest) = record { few = omega (arith, most); parts = omega (arith, few_parts); new = all_new (names_of (table ∷ rest)); differ = differ } in

@@ -20,7 +20,7 @@ use Rattle.statement_draft.specs.StatementEvents.{where_came}
 use Rattle.statement_draft.specs.declared.draft.Draft.{Draft}
 use Rattle.statement_draft.specs.declared.draft.NewExpression.{NewExpression}
 use Rattle.statement_printer.specs.Printing.{access_key, access_words, filter_words, key, sign}
-use Rattle.statement_round_trip.specs.Onward.{Reads}
+use Rattle.statement_round_trip.specs.Onward.{ReadsOn}
 use Rattle.statement_round_trip.specs.Rereading.{filtered, EndsExpression}
 use Rattle.statement_round_trip.proofs.Ends.{expressions_end, filter_read_back}
 use Rattle.statement_round_trip.proofs.LimitsRead.{semicolon_steps}
@@ -54,8 +54,8 @@ change_steps access.Repeatable s d may first end ts at = refl
 -- FOR STABLE ACCESS ;
 access_reads : (p : Part) (a : Access) (s : List Symbol) (d : Draft) (ws : List Word) (Last : Draft → Type 0)
     → ((s : List Symbol) (d : Draft) → StepsTo (part p ∷ s) d (key (access_key a)) s (λ place. accessed a d))
-    → Reads s (accessed a d) ws Last
-    → Reads (grammar.key keys.For ∷ part p ∷ grammar.key keys.Access ∷ grammar.sign signs.Semicolon ∷ s) d
+    → ReadsOn s (accessed a d) ws Last
+    → ReadsOn (grammar.key keys.For ∷ part p ∷ grammar.key keys.Access ∷ grammar.sign signs.Semicolon ∷ s) d
     (key keys.For ∷ key (access_key a) ∷ key keys.Access ∷ sign signs.Semicolon ∷ ws) Last
 access_reads p a s d ws Last steps more =
     step _ d _ _ Last _ _ (key_steps_for _ d) (λ i.
@@ -73,8 +73,8 @@ no_where = refl
 
 filter_reads : (table : TableDef) → IsTable table → (filter : Option Expr) → IsFilter table filter → (s : List Symbol) (d : Draft) (ws : List Word) (Last : Draft → Type 0)
     → columns_in d.scope d ≡ Some table.columns → d.statement.filter ≡ None
-    → ((place : ℕ) (e : NewExpression) → Reads s (with_filter place filter e d) (key keys.For ∷ ws) Last)
-    → Reads (part parts.Where ∷ s) d (filter_words table.columns filter ++ key keys.For ∷ ws) Last
+    → ((place : ℕ) (e : NewExpression) → ReadsOn s (with_filter place filter e d) (key keys.For ∷ ws) Last)
+    → ReadsOn (part parts.Where ∷ s) d (filter_words table.columns filter ++ key keys.For ∷ ws) Last
 filter_reads table is None suits s d ws Last scope none more =
     skip parts.Where s d (key keys.For) ws Last refl no_where
     (from s d (with_filter d.statement.where_at None d.expression d) (key keys.For ∷ ws) Last
@@ -88,8 +88,8 @@ filter_reads table is (Some e) suits s d ws Last scope none more =
 pub tail_reads : (table : TableDef) → IsTable table → (p : Part) (filter : Option Expr) (a : Access) → IsFilter table filter
     → ((s : List Symbol) (d : Draft) → StepsTo (part p ∷ s) d (key (access_key a)) s (λ place. accessed a d))
     → (s : List Symbol) (d : Draft) (ws : List Word) (Last : Draft → Type 0) → columns_in d.scope d ≡ Some table.columns → d.statement.filter ≡ None
-    → ((place : ℕ) (e : NewExpression) → Reads s (accessed a (with_filter place filter e d)) ws Last)
-    → Reads (part parts.Where ∷ grammar.key keys.For ∷ part p ∷ grammar.key keys.Access ∷ grammar.sign signs.Semicolon ∷ s) d
+    → ((place : ℕ) (e : NewExpression) → ReadsOn s (accessed a (with_filter place filter e d)) ws Last)
+    → ReadsOn (part parts.Where ∷ grammar.key keys.For ∷ part p ∷ grammar.key keys.Access ∷ grammar.sign signs.Semicolon ∷ s) d
     (access_words table.columns filter a ++ ws) Last
 tail_reads table is p filter a suits steps s d ws Last scope none more =
     spelled _ d _ _ Last (append_assoc (filter_words table.columns filter) (key keys.For ∷ key (access_key a) ∷ key keys.Access ∷ sign signs.Semicolon ∷ []) ws)

@@ -14,7 +14,7 @@ use Rattle.statement_draft.proofs.Clean.{noted-none}
 use Rattle.statement_draft.specs.Faults.{noted}
 use Rattle.statement_draft.specs.Judging.{ended}
 use Rattle.statement_draft.specs.RowEvents.{load_kept, miscounts, record_counted, row_judged, row_loaded}
-use Rattle.statement_draft.specs.StatementEvents.{statement_begins, statement_kept, statement_of, times}
+use Rattle.statement_draft.specs.StatementEvents.{statement_begins, statement_kept, statement_drafted, times}
 use Rattle.statement_draft.specs.declared.draft.Draft.{Draft}
 use Rattle.statement_draft.specs.declared.draft.NewStatement.{NewStatement}
 use Rattle.statement_draft.specs.declared.draft.StatementKind.{StatementKind}
@@ -124,7 +124,7 @@ abbrev pub weight : StatementKind → ℕ
 weight kinds.Insert = 1
 weight kind = 0
 
-weighs : (kind : StatementKind) (t : ℕ) (s : NewStatement) (row : List Value) → record_of (statement_of kind t s row) ≡ weight kind
+weighs : (kind : StatementKind) (t : ℕ) (s : NewStatement) (row : List Value) → record_of (statement_drafted kind t s row) ≡ weight kind
 weighs kinds.Select t s row = refl
 weighs kinds.Update t s row = refl
 weighs kinds.Delete t s row = refl
@@ -134,7 +134,7 @@ weighs kinds.Lock t s row = refl
 statement_is_kept : (table : Option ℕ) (r : ℕ) (d : Draft) → weight d.statement.kind ≤ r → Balanced r 1 (tally d) → Even (statement_kept table d)
 statement_is_kept None r d light b = record { records = omega (arith, b.records); few_records = b.few_records; statements = omega (arith, b.statements); few_statements = b.few_statements }
 statement_is_kept (Some t) r d light b =
-    let st = statement_of d.statement.kind t d.statement d.row.values in
+    let st = statement_drafted d.statement.kind t d.statement d.row.values in
     let long = length-append d.work (st ∷ []) in
     let pushed = sum_by_push record_of d.work st in
     let weighed = weighs d.statement.kind t d.statement d.row.values in

@@ -32,7 +32,7 @@ use Rattle.statement_draft.specs.declared.draft.StatementKind.TheVariants as sta
 use Rattle.statement_draft.specs.declared.faults.Reason.TheVariants.{OverLimit}
 use Rattle.statement_printer.specs.Printing.{access_words, key, set_words, sign, with_commas, words_on}
 use Rattle.statement_rules.proofs.StatementSteps.{code_counted, code_more}
-use Rattle.statement_round_trip.specs.Onward.{Reads}
+use Rattle.statement_round_trip.specs.Onward.{ReadsOn}
 use Rattle.statement_round_trip.specs.Rereading.{EndsExpression}
 use Rattle.statement_round_trip.proofs.Apart.{apart_more, apart_none, differing, Apart}
 use Rattle.statement_round_trip.proofs.AssignsRead.{assign_reads, set_symbols, setting}
@@ -89,7 +89,7 @@ comma_steps s d first end ts at = refl
 -- what has been read when a SET list is read
 abbrev Listed : ℕ → ℕ → List Assign → Draft → List Symbol → Word → List Word → (Draft → Type 0) → Type 0
 Listed t at sets d s v ws Last =
-    (column : Option ℕ) (place : ℕ) (columns : List ℕ) (code : ℕ) (e : NewExpression) → Counts code sets → Reads s (setting at column place columns sets code e (on_table t d)) (v ∷ ws) Last
+    (column : Option ℕ) (place : ℕ) (columns : List ℕ) (code : ℕ) (e : NewExpression) → Counts code sets → ReadsOn s (setting at column place columns sets code e (on_table t d)) (v ∷ ws) Last
 
 abbrev columns_set : List Assign → List ℕ
 columns_set sets = map (λ set. set.column) sets
@@ -99,7 +99,7 @@ others_read : (t : ℕ) (table : TableDef) → IsTable table → (sets : List As
     → slice_get d.tables t ≡ Some table → Apart before (columns_set sets) → Counts code so_far
     → (s : List Symbol) (v : Word) (ws : List Word) (Last : Draft → Type 0) → EndsExpression v → behind parts.MoreSets v ≡ None
     → Listed t at (so_far ++ sets) d s v ws Last
-    → Reads (part parts.MoreSets ∷ s) (setting at column place before so_far code e (on_table t d)) (others table.columns sets ++ v ∷ ws) Last
+    → ReadsOn (part parts.MoreSets ∷ s) (setting at column place before so_far code e (on_table t d)) (others table.columns sets ++ v ∷ ws) Last
 others_read t table declared [] each differ at column place before so_far code e d here apart counts s v ws Last ends_it other more =
     let same = sym (append-nil so_far) in
     skip parts.MoreSets s _ v ws Last refl other
@@ -142,7 +142,7 @@ update_ends t at column place columns sets code old filter access began where_at
 pub update_reads : (p : Part) (d after : Draft) → Begins p d after → (t : ℕ) (table : TableDef) (sets : List Assign) (filter : Option Expr) (access : Access)
     → Declared after.tables t table → slice_get after.tables t ≡ Some table → AreSets table sets → IsFilter table filter → MayChange access
     → (s : List Symbol) (w : Word) (ws : List Word) (Last : Draft → Type 0) → Behind (statement.Update t sets filter access) after s w ws Last
-    → Reads (part p ∷ s) d (words_on (Some table) (statement.Update t sets filter access) ++ w ∷ ws) Last
+    → ReadsOn (part p ∷ s) d (words_on (Some table) (statement.Update t sets filter access) ++ w ∷ ws) Last
 update_reads p d after begins t table [] filter access is here are suits may s w ws Last more = absurd (omega (arith, are.some))
 update_reads p d after begins t table (x ∷ sets) filter access is here are suits may s w ws Last more =
     let tail = tail_of table.columns filter access w ws in

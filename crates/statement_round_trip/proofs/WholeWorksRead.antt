@@ -24,7 +24,7 @@ use Rattle.statement_draft.specs.declared.draft.Scope.{Scope}
 use Rattle.statement_draft.specs.declared.draft.StatementKind.TheVariants as kinds
 use Rattle.statement_draft.specs.declared.faults.Reason.TheVariants.{OverLimit}
 use Rattle.statement_printer.specs.Printing.{end_key, key, sign, statement_words}
-use Rattle.statement_round_trip.specs.Onward.{Reads}
+use Rattle.statement_round_trip.specs.Onward.{ReadsOn}
 use Rattle.statement_round_trip.specs.WholeScripts.{record_of}
 use Rattle.statement_round_trip.proofs.Beginning.{more_works_begin, work_begin, work_counted, Begins, FewStatements, FewWorks}
 use Rattle.statement_round_trip.proofs.FollowingRead.{at_most, emptied, few_statements, has_room, holding, next_of, one_read, records_of, Room}
@@ -77,7 +77,7 @@ end_words commit ws = key (end_key commit) ∷ key keys.Work ∷ sign signs.Semi
 -- where a work has been read
 abbrev pub WorkRead : List Statement → Bool → Draft → List Symbol → List Word → (Draft → Type 0) → Type 0
 WorkRead sts commit d s ws Last = (names : Scope) (e : NewExpression) (row : NewRow) (new : NewStatement)
-    → Reads (part parts.MoreWorks ∷ s) (kept_work commit (holding names e row new (opened d) sts (d.records + records_of sts) (d.statements + length sts))) ws Last
+    → ReadsOn (part parts.MoreWorks ∷ s) (kept_work commit (holding names e row new (opened d) sts (d.records + records_of sts) (d.statements + length sts))) ws Last
 
 none_more : (n : ℕ) → n ≡ n + 0
 none_more n = omega arith
@@ -97,7 +97,7 @@ beside a b = omega arith
 -- a work, and what is behind it
 pub work_reads : (p : Part) (d : Draft) → Opens p d → (sts : List Statement) (commit : Bool) → AreDeclared d.tables → AllByRecursion (IsStatement d.tables) sts
     → Room sts d.records d.statements d → (s : List Symbol) (ws : List Word) (Last : Draft → Type 0) → WorkRead sts commit d s ws Last
-    → Reads (part p ∷ s) d (flat_map (statement_words d.tables) sts ++ end_words commit ws) Last
+    → ReadsOn (part p ∷ s) d (flat_map (statement_words d.tables) sts ++ end_words commit ws) Last
 work_reads p d opens [] commit declared all room s ws Last more =
     let d1 = ending_as commit (opened d) in
     step _ d _ _ Last _ _ (opens.finish commit s) (λ a.

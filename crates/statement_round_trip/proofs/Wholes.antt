@@ -16,7 +16,7 @@ use Rattle.statement_grammar.specs.declared.symbols.Symbol.TheVariants as symbol
 use Rattle.statement_draft.specs.Expressions.{expression_begins}
 use Rattle.statement_draft.specs.Judging.{came, read_from}
 use Rattle.statement_draft.specs.declared.draft.Draft.{Draft}
-use Rattle.statement_printer.specs.Printing.{Printed, printed_expr, print_step, operand, between, int_words, name_of, sign, key, arith_sign, compare_sign, expr_words}
+use Rattle.statement_printer.specs.Printing.{Printed, printed_expr, print_step, operand_words, between, int_words, name_word, sign, key, arith_sign, compare_sign, expr_words}
 use Rattle.statement_round_trip.specs.Rereading.{whole_stack, WholesReadBack}
 use Rattle.statement_printer.proofs.Joining.{words_of_pos}
 use Rattle.statement_round_trip.proofs.Steps.{read_part}
@@ -32,7 +32,7 @@ record Begins (words : List Word) : Type 0 where
   pub more : List Symbol
   pub begins : behind parts.Condition first ≡ Some more
 
-begins_operand : (words : List Word) (is_operator : Bool) → Begins words → Begins (operand (record { words = words; is_operator = is_operator }))
+begins_operand : (words : List Word) (is_operator : Bool) → Begins words → Begins (operand_words (record { words = words; is_operator = is_operator }))
 unfolding behind
 begins_operand words true b = record { first = sign signs.Open; rest = words ++ sign signs.Close ∷ []; is = refl; more = _; begins = refl }
 begins_operand words false b = b
@@ -53,7 +53,7 @@ begins_text : (text : List ℕ) → Begins (word.Text text ∷ [])
 unfolding behind
 begins_text text = record { first = _; rest = _; is = refl; more = _; begins = refl }
 
-begins_name : (found : Option Column) → Begins (name_of found ∷ [])
+begins_name : (found : Option Column) → Begins (name_word found ∷ [])
 unfolding behind
 begins_name None = record { first = _; rest = _; is = refl; more = _; begins = refl }
 begins_name (Some column) = record { first = _; rest = _; is = refl; more = _; begins = refl }
@@ -63,7 +63,7 @@ unfolding behind
 begins_not words = record { first = _; rest = _; is = refl; more = _; begins = refl }
 
 begins_between : (op : Word) (a b : Printed) → Begins a.words → Begins (between op a b).words
-begins_between op a b begins = begins_append (operand a) (op ∷ operand b) (begins_operand a.words a.is_operator begins)
+begins_between op a b begins = begins_append (operand_words a) (op ∷ operand_words b) (begins_operand a.words a.is_operator begins)
 
 begins_as : (q : Printed) (r : Printed) → q ≡ r → Begins r.words → Begins q.words
 begins_as q r e b = subst (λ (p : Printed). Begins p.words) (sym e) b
@@ -81,7 +81,7 @@ module _ (columns : List Column) where
     comparison = λ o a b l r. begins_as _ _ (fold-Compare Printed fp o a b) (begins_between (sign (compare_sign o)) (printed_expr columns a) (printed_expr columns b) l);
     conjunction = λ a b l r. begins_as _ _ (fold-And Printed fp a b) (begins_between (key keys.And) (printed_expr columns a) (printed_expr columns b) l);
     disjunction = λ a b l r. begins_as _ _ (fold-Or Printed fp a b) (begins_between (key keys.Or) (printed_expr columns a) (printed_expr columns b) l);
-    negated = λ a b. begins_as _ _ (fold-Not Printed fp a) (begins_not (operand (printed_expr columns a)));
+    negated = λ a b. begins_as _ _ (fold-Not Printed fp a) (begins_not (operand_words (printed_expr columns a)));
   }
 
 -- a whole expression begins as a condition does

@@ -20,7 +20,7 @@ use Rattle.statement_draft.specs.declared.draft.NewRow.{NewRow}
 use Rattle.statement_draft.specs.declared.draft.NewStatement.{NewStatement}
 use Rattle.statement_draft.specs.declared.draft.Scope.{Scope}
 use Rattle.statement_printer.specs.Printing.{end_key, key, sign, statement_words}
-use Rattle.statement_round_trip.specs.Onward.{Reads}
+use Rattle.statement_round_trip.specs.Onward.{ReadsOn}
 use Rattle.statement_round_trip.proofs.FollowingRead.{following_read, holding, records_of, Room}
 use Rattle.statement_round_trip.proofs.LimitsRead.{semicolon_steps}
 use Rattle.statement_round_trip.proofs.AtTheEnd.{end_then}
@@ -53,8 +53,8 @@ work_is commit d = refl
 
 -- COMMIT WORK ; and what is behind it
 pub end_reads : (commit : Bool) (s : List Symbol) (d : Draft) (ws : List Word) (Last : Draft → Type 0)
-    → Reads (part parts.MoreWorks ∷ s) (kept_work commit d) ws Last
-    → Reads (part parts.MoreStatements ∷ s) d (key (end_key commit) ∷ key keys.Work ∷ sign signs.Semicolon ∷ ws) Last
+    → ReadsOn (part parts.MoreWorks ∷ s) (kept_work commit d) ws Last
+    → ReadsOn (part parts.MoreStatements ∷ s) d (key (end_key commit) ∷ key keys.Work ∷ sign signs.Semicolon ∷ ws) Last
 end_reads commit s d ws Last more =
     let d1 = ending_as commit d in
     step _ d _ _ Last _ _ (end_steps commit s d) (λ a.
@@ -68,8 +68,8 @@ pub rest_of_work_reads : (sts before : List Statement) (commit : Bool) (names : 
     → AreDeclared d.tables → AllByRecursion (IsStatement d.tables) sts → Room sts records count d
     → (s : List Symbol) (ws : List Word) (Last : Draft → Type 0)
     → ((names : Scope) (e : NewExpression) (row : NewRow) (new : NewStatement)
-    → Reads (part parts.MoreWorks ∷ s) (kept_work commit (holding names e row new d (d.work ++ (before ++ sts)) (records + records_of sts) (count + length sts))) ws Last)
-    → Reads (part parts.MoreStatements ∷ s) (holding names e row new d (d.work ++ before) records count)
+    → ReadsOn (part parts.MoreWorks ∷ s) (kept_work commit (holding names e row new d (d.work ++ (before ++ sts)) (records + records_of sts) (count + length sts))) ws Last)
+    → ReadsOn (part parts.MoreStatements ∷ s) (holding names e row new d (d.work ++ before) records count)
     (flat_map (statement_words d.tables) sts ++ key (end_key commit) ∷ key keys.Work ∷ sign signs.Semicolon ∷ ws) Last
 rest_of_work_reads sts before commit names e row new d records count declared all room s ws Last more =
     following_read sts before names e row new d records count declared all room s (key (end_key commit)) _ Last (λ names1 e1 row1 new1.

@@ -8,5 +8,5 @@ use Rattle.statement_draft.specs.declared.draft.Draft.{Draft}
 use Rattle.statement_round_trip.specs.Rereading.{words_in}
 
 -- where these symbols must come, and these are all the words left, the last draft is so, wherever the words stand
-abbrev pub Reads : List Symbol → Draft → List Word → (Draft → Type 0) → Type 0
-Reads s d words Last = (tokens : List Token) (at : ℕ) → words_in tokens ≡ words → Last (read_from s d tokens at)
+abbrev pub ReadsOn : List Symbol → Draft → List Word → (Draft → Type 0) → Type 0
+ReadsOn s d words Last = (tokens : List Token) (at : ℕ) → words_in tokens ≡ words → Last (read_from s d tokens at)

@@ -24,7 +24,7 @@ use Rattle.statement_grammar.specs.declared.symbols.End.TheVariants as ends
 use Rattle.statement_draft.specs.declared.kinds.Op.TheVariants as op
 use Rattle.statement_draft.specs.declared.kinds.Operand.{Operand}
 use Rattle.statement_draft.specs.declared.draft.Draft.{Draft}
-use Rattle.statement_printer.specs.Printing.{expr_words, filter_words, key, kept, sign}
+use Rattle.statement_printer.specs.Printing.{expr_words, filter_words, key, length_unblanked, sign}
 use Rattle.statement_draft.specs.StatementEvents.{where_came}
 use Rattle.statement_words.specs.declared.keywords.Keyword.TheVariants as keys
 use Rattle.statement_words.specs.declared.tokens.Sign.TheVariants as signs
@@ -108,7 +108,7 @@ WholesReadBack =
 
 -- a text that is printed without its last blanks is padded to itself
 abbrev pub PaddedBack : Type 0
-PaddedBack = (text : List ℕ) → padded (length text) (take (kept text) text) ≡ text
+PaddedBack = (text : List ℕ) → padded (length text) (take (length_unblanked text) text) ≡ text
 
 -- a table that may be declared has its columns found by their names
 abbrev pub ColumnsNamed : Type 0

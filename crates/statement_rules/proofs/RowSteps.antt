@@ -13,7 +13,7 @@ use Rattle.sql_base.specs.declared.values.Value.{Value}
 use Rattle.sql_base.specs.declared.values.Value.TheVariants as value
 use Rattle.statement_draft.specs.Faults.{noted, noted_as}
 use Rattle.statement_draft.specs.Names.{is_wide}
-use Rattle.statement_draft.specs.RowEvents.{filled, literal_fault, next_kind, wrong_with, literal_came, number_came, negative, negative_came}
+use Rattle.statement_draft.specs.RowEvents.{fitted, literal_fault, next_kind, wrong_with, literal_came, number_came, negative, negative_came}
 use Rattle.statement_draft.specs.declared.faults.Fault.{Fault}
 use Rattle.statement_draft.specs.declared.faults.Reason.{Reason}
 use Rattle.statement_draft.specs.declared.faults.Reason.TheVariants.{NumberTooWide}
@@ -76,7 +76,7 @@ stored_text n text h short =
     let long = padded-length n text (grind (arith, nat_tests, short)) in
     and_true (length (padded n text) == n) _ (grind (arith, nat_tests, long)) (printable_padded n text h)
 
-literal_fits : (of : RowOf) (kind : Option ColumnKind) (v : Value) → IsGiven v → literal_fault of kind v ≡ None → fits_at of kind (filled of kind v) ≡ true
+literal_fits : (of : RowOf) (kind : Option ColumnKind) (v : Value) → IsGiven v → literal_fault of kind v ≡ None → fits_at of kind (fitted of kind v) ≡ true
 literal_fits row_of.FirstKey None v g h = absurd (cc (h))
 literal_fits row_of.FirstKey (Some Int) (value.Int n) g h = g
 literal_fits row_of.FirstKey (Some Int) (value.Text text) g h = absurd (cc (h))
@@ -178,17 +178,17 @@ known_fault row kinds v h = ap (option_and_then (λ ks. literal_fault row.of (sl
 pub literal_step : (v : Value) (at : ℕ) (d : Draft) → IsGiven v → (literal_came v at d).first ≡ None → Longer d (literal_came v at d)
 literal_step v at d given h =
     let right = as_none (wrong_with d.row v) at d.first h in
-    let longer = length-append d.row.values (filled d.row.of (next_kind d.row) v ∷ []) in
+    let longer = length-append d.row.values (fitted d.row.of (next_kind d.row) v ∷ []) in
     record {
       step = record {
-        row = record d.row { values = d.row.values ++ filled d.row.of (next_kind d.row) v ∷ [] };
+        row = record d.row { values = d.row.values ++ fitted d.row.of (next_kind d.row) v ∷ [] };
         first = noted_as (wrong_with d.row v) at d.first;
         same = refl;
         of = refl;
         kinds = refl;
         more = omega (arith, longer);
-        fits = λ kinds k f. fits_more d.row.of kinds d.row.values (filled d.row.of (next_kind d.row) v) f
-            (subst (λ (o : Option ColumnKind). fits_at d.row.of (slice_get kinds (length d.row.values)) (filled d.row.of o v) ≡ true) (sym (known_kind d.row kinds k))
+        fits = λ kinds k f. fits_more d.row.of kinds d.row.values (fitted d.row.of (next_kind d.row) v) f
+            (subst (λ (o : Option ColumnKind). fits_at d.row.of (slice_get kinds (length d.row.values)) (fitted d.row.of o v) ≡ true) (sym (known_kind d.row kinds k))
             (literal_fits d.row.of (slice_get kinds (length d.row.values)) v given (sym (known_fault d.row kinds v k) ∙ right)));
       };
       one = omega (arith, longer);

@@ -19,7 +19,7 @@ use Rattle.statement_grammar.specs.declared.symbols.Part.TheVariants as parts
 use Rattle.statement_grammar.specs.declared.symbols.Symbol.{Symbol}
 use Rattle.statement_draft.specs.Judging.{ended, part_came}
 use Rattle.statement_draft.specs.RowEvents.{miscounts}
-use Rattle.statement_draft.specs.StatementEvents.{session_begins, statement_of, statement_came, work_begins, table_came, insert_came, selected_came, select_table_came, names_judged, where_came, sets_begin, set_came, access_came, access_of, mode_came, insert_row_ends}
+use Rattle.statement_draft.specs.StatementEvents.{session_begins, statement_drafted, statement_came, work_begins, table_came, insert_came, selected_came, select_table_came, names_judged, where_came, sets_begin, set_came, access_came, access_named, mode_came, insert_row_ends}
 use Rattle.statement_draft.specs.declared.draft.Draft.{Draft}
 use Rattle.statement_draft.specs.declared.draft.NewStatement.{NewStatement}
 use Rattle.statement_draft.specs.declared.draft.RowOf.{RowOf}
@@ -87,7 +87,7 @@ change_meets (word.Text text) more d h = absurd (cc (h))
 change_meets (word.Sign s) more d h = absurd (cc (h))
 
 access_step : (w : Word) (d : Draft) → AccessStep d (access_came w d)
-access_step w d = record { access = access_of w; same = refl }
+access_step w d = record { access = access_named w; same = refl }
 
 nothing_more : (b c : Bool) (more : List Symbol) (P : List Symbol → Type 0) → (if b then Some [] else (if c then Some [] else None)) ≡ Some more → P [] → P more
 nothing_more true c more P h p = by_some [] more P h p
@@ -134,8 +134,8 @@ unfolding ended
 statement_over d s f = statement_ended d s f
 
 -- of the kind that it began as
-suits_as : (d : Draft) (kind : StatementKind) (k : Known d) → d.statement.kind ≡ kind → SuitsTable k.table (statement_of kind k.place d.statement d.row.values) → Suits d
-suits_as d kind k is h = (k, subst (λ (x : StatementKind). SuitsTable k.table (statement_of x k.place d.statement d.row.values)) (sym is) h)
+suits_as : (d : Draft) (kind : StatementKind) (k : Known d) → d.statement.kind ≡ kind → SuitsTable k.table (statement_drafted kind k.place d.statement d.row.values) → Suits d
+suits_as d kind k is h = (k, subst (λ (x : StatementKind). SuitsTable k.table (statement_drafted x k.place d.statement d.row.values)) (sym is) h)
 
 no_filter_there : (table : TableDef) (f : Option Expr) → f ≡ None → IsFilter table f
 no_filter_there table f h = subst (IsFilter table) (sym h) tt

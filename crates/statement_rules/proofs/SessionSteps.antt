@@ -11,7 +11,7 @@ use Rattle.sql_base.specs.declared.tables.TableDef.{TableDef}
 use Rattle.sql_base.specs.declared.values.Value.{Value}
 use Rattle.statement_draft.specs.Faults.{noted}
 use Rattle.statement_draft.specs.Names.{is_long, table_named}
-use Rattle.statement_draft.specs.StatementEvents.{session_begins, times, statement_of, statement_kept, statement_ends, work_ends, session_ends, table_found, table_came}
+use Rattle.statement_draft.specs.StatementEvents.{session_begins, times, statement_drafted, statement_kept, statement_ends, work_ends, session_ends, table_found, table_came}
 use Rattle.statement_draft.specs.Expressions.{columns_in}
 use Rattle.statement_draft.specs.declared.draft.Draft.{Draft}
 use Rattle.statement_draft.specs.declared.draft.NewStatement.{NewStatement}
@@ -134,9 +134,9 @@ session_ended d h some =
 
 -- a whole statement that suits its table
 abbrev pub Suits : Draft → Type 0
-Suits d = (k : Known d) × SuitsTable k.table (statement_of d.statement.kind k.place d.statement d.row.values)
+Suits d = (k : Known d) × SuitsTable k.table (statement_drafted d.statement.kind k.place d.statement d.row.values)
 
-place_of : (k : StatementKind) (t : ℕ) (s : NewStatement) (row : List Value) → table_of (statement_of k t s row) ≡ t
+place_of : (k : StatementKind) (t : ℕ) (s : NewStatement) (row : List Value) → table_of (statement_drafted k t s row) ≡ t
 place_of statement_kind.Select t s row = refl
 place_of statement_kind.Update t s row = refl
 place_of statement_kind.Delete t s row = refl
@@ -146,7 +146,7 @@ place_of statement_kind.Lock t s row = refl
 pub statement_ended : (d : Draft) → Stating d → Suits d → Stating (statement_ends d)
 statement_ended d h s =
     let k = s.0 in
-    let statement = statement_of d.statement.kind k.place d.statement d.row.values in
+    let statement = statement_drafted d.statement.kind k.place d.statement d.row.values in
     let kept : statement_ends d ≡ statement_kept (Some k.place) d = ap (λ o. statement_kept o d) k.named in
     let there : slice_get d.tables (table_of statement) ≡ Some k.table = ap (slice_get d.tables) (place_of d.statement.kind k.place d.statement d.row.values) ∙ k.there in
     subst Stating (sym kept) (h.0, all-push (IsStatement d.tables) d.work statement h.1 (k.table, there, s.1))

@@ -23,7 +23,7 @@ use Rattle.statement_draft.specs.declared.draft.Scope.TheVariants as scope
 use Rattle.statement_draft.specs.Expressions.{columns_in, whole, no_expression, expression_begins, expression_judged, filter_ends}
 use Rattle.statement_draft.specs.Faults.{noted}
 use Rattle.statement_draft.specs.Names.{is_long, column_named}
-use Rattle.statement_draft.specs.StatementEvents.{Selected, select_found, selected, selected_from, places_from, names_judged, table_came, select_table_came, where_came, statement_table, set_found, set_in, set_named, set_came, set_fault, set_kind, assigned, assign_ends, sets_end}
+use Rattle.statement_draft.specs.StatementEvents.{Selected, select_found, selected, selected_from, places_from, names_judged, table_came, select_table_came, where_came, statement_table, set_found, column_set, set_named, set_came, set_fault, set_kind, with_assign, assign_ends, sets_end}
 use Rattle.statement_draft.specs.declared.draft.Draft.{Draft}
 use Rattle.statement_draft.specs.declared.draft.NameAt.{NameAt}
 use Rattle.statement_draft.specs.declared.draft.NewExpression.{NewExpression}
@@ -217,7 +217,7 @@ pub set_step : (name : List ℕ) (at : ℕ) (d : Draft) (k : Known d) → SetsSo
 set_step name at d k sets clean =
     let F = noted (is_long name) OverLimit at d.first in
     let is : statement_table d ≡ Some k.table = ap (option_and_then (slice_get d.tables)) k.named ∙ k.there in
-    let same : set_came name at d ≡ set_named (set_in (Some k.table) name at d.statement.columns F) at d = ap (λ o. set_named (set_in o name at d.statement.columns F) at d) is in
+    let same : set_came name at d ≡ set_named (column_set (Some k.table) name at d.statement.columns F) at d = ap (λ o. set_named (column_set o name at d.statement.columns F) at d) is in
     subst (λ (x : Draft). SetColumn k.table x.statement) (sym same) (by_place F (column_named k.table.columns name) refl (ap (λ (x : Draft). x.first) (sym same) ∙ clean))
   where
     by_place : (F : Option Fault) (o : Option ℕ) → column_named k.table.columns name ≡ o → (set_named (set_found k.table o at d.statement.columns F) at d).first ≡ None
@@ -287,8 +287,8 @@ pub record AssignStep (table : TableDef) (s : NewStatement) : Type 0 where
   pub sets : SetsSound table s.sets s.columns s.code
   pub some : 0 < length s.sets
 
-assigned_one : (c : Option ℕ) (v : Option Expr) (sets : List Assign) (d : ℕ) (t : Expr) → c ≡ Some d → v ≡ Some t → assigned c v sets ≡ sets ++ record { column = d; value = t } ∷ []
-assigned_one c v sets d t h k = ap (λ o. assigned o v sets) h ∙ ap (λ o. assigned (Some d) o sets) k
+assigned_one : (c : Option ℕ) (v : Option Expr) (sets : List Assign) (d : ℕ) (t : Expr) → c ≡ Some d → v ≡ Some t → with_assign c v sets ≡ sets ++ record { column = d; value = t } ∷ []
+assigned_one c v sets d t h k = ap (λ o. with_assign o v sets) h ∙ ap (λ o. with_assign (Some d) o sets) k
 
 assign_of : (e : Draft) (k : Known e) → SetColumn k.table e.statement → Expressed k.table (whole e.expression) → (assign_ends e).first ≡ None
     → AssignStep k.table (assign_ends e).statement

@@ -12,7 +12,7 @@ use Rattle.statement_draft.specs.TableEvents as tables
 use Rattle.statement_draft.specs.RowEvents as rows
 use Rattle.statement_draft.specs.Expressions as expressions
 use Rattle.statement_draft.specs.StatementEvents as statements
-use Rattle.statement_draft.specs.StatementEvents.{Selected, select_found, selected, selected_from, set_in, set_found, statement_table}
+use Rattle.statement_draft.specs.StatementEvents.{Selected, select_found, selected, selected_from, column_set, set_found, statement_table}
 use Rattle.statement_draft.specs.declared.faults.Fault.{Fault}
 use Rattle.statement_draft.specs.declared.faults.Reason.{Reason}
 use Rattle.statement_draft.specs.declared.faults.Reason.TheVariants.{NumberTooWide, UnknownName, OverLimit, Unexpected}
@@ -79,7 +79,7 @@ pub set_found_stays : (table : TableDef) (c : Option ℕ) (at : ℕ) (before : L
 set_found_stays table None at before f h = one true UnknownName at f h
 set_found_stays table (Some c) at before f h = one _ _ _ _ (one _ _ _ _ h)
 
-pub set_in_stays : (t : Option TableDef) (name : List ℕ) (at : ℕ) (before : List ℕ) (f : Option Fault) → (set_in t name at before f).1 ≡ None → f ≡ None
+pub set_in_stays : (t : Option TableDef) (name : List ℕ) (at : ℕ) (before : List ℕ) (f : Option Fault) → (column_set t name at before f).1 ≡ None → f ≡ None
 set_in_stays None name at before f h = h
 set_in_stays (Some table) name at before f h = set_found_stays table (column_named table.columns name) at before f h
 

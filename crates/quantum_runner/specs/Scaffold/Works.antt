@@ -43,10 +43,10 @@ abbrev pub HoldsRow : TableDef → Cell → Type 0
 HoldsRow table cell = (row : List Value) → cell.now ≡ Some row → IsRow table row
 
 -- whether a predicate of this outcome is met, or its fault
-abbrev pub predicate_of : Outcome → Result Bool Fault
-predicate_of (Err fault) = Err (fault_of fault)
-predicate_of (Ok (IsTruth b)) = Ok b
-predicate_of (Ok item) = Ok false
+abbrev pub met_by : Outcome → Result Bool Fault
+met_by (Err fault) = Err (fault_of fault)
+met_by (Ok (IsTruth b)) = Ok b
+met_by (Ok item) = Ok false
 
 abbrev pub does_change : Doing → Bool
 does_change (doing.Read columns) = false

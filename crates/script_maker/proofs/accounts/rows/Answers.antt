@@ -1,17 +1,17 @@
 use Rattle.std.proofs.Common.{sym, ◌∙◌}
 use Rattle.script_maker.proofs.InLine.{after_none, grown, in_line_none, moved}
-use Rattle.script_maker.specs.Making.{loaded}
+use Rattle.script_maker.specs.Making.{loaded_account}
 use Rattle.script_maker.proofs.accounts.rows.Goals as goal
 
 pub loop-number-init : goal.loop-number-init
 loop-number-init c =
-    let part = loaded in
+    let part = loaded_account in
     let s = c.args.draws.now.state in
     (c.new-rows.ensures ∙ sym (in_line_none 2 part s), sym (after_none s))
 
 pub loop-number-preserved : goal.loop-number-preserved
 loop-number-preserved c =
-    let part = loaded in
+    let part = loaded_account in
     let i = c.loop-number.number in
     let s = c.args.draws.now.state in
     let now = c.loop-number.draws.state in (
