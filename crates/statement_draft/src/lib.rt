@@ -1,6 +1,7 @@
 //! What is made of a script's words, and the first fault of them.
 #![tactic(auto)]
 
+mod assignments;
 mod checks;
 mod draft;
 mod expressions;
@@ -9,6 +10,7 @@ mod keys;
 mod kinds;
 mod laws;
 mod names;
+mod operators;
 mod reader;
 mod rows;
 mod statements;

@@ -7,7 +7,7 @@ use crate::checks::Checks;
 use crate::draft::{Draft, NewRow, RowOf, Scope, StatementKind};
 use crate::faults::{Reason, noted};
 use crate::names::is_wide;
-use crate::{expressions, rows, statements, tables};
+use crate::{assignments, expressions, operators, rows, statements, tables};
 use sql_base::{ColumnKind, Limits, List, Name, NoMemory};
 use statement_grammar::{
     End, NameRole, NumberRole, Part, SCRIPT, Stack, Symbol, advance, finish, is_key, put,
@@ -59,7 +59,7 @@ fn name_came(
             Ok(())
         }
         NameRole::InsertTable => statements::insert_came(alloc, &name, at, draft),
-        NameRole::SetColumn => statements::set_came(&name, at, draft),
+        NameRole::SetColumn => assignments::set_came(&name, at, draft),
         NameRole::SelectColumn => statements::selected_came(name, at, draft),
     }
 }
@@ -152,7 +152,7 @@ fn part_came(
             Ok(())
         }
         Part::Sets => {
-            statements::sets_begin(at, draft);
+            assignments::sets_begin(at, draft);
             Ok(())
         }
         Part::MoreSets => Ok(()),
@@ -213,14 +213,14 @@ fn ended<C: Checks>(alloc: Global, checks: &C, end: End, draft: &mut Draft) -> R
             expressions::filter_ends(alloc, draft);
             Ok(())
         }
-        End::Assign => statements::assign_ends(alloc, draft),
+        End::Assign => assignments::assign_ends(alloc, draft),
         End::Sets => {
-            statements::sets_end(draft);
+            assignments::sets_end(draft);
             Ok(())
         }
-        End::Operator => expressions::operator_ends(alloc, draft),
+        End::Operator => operators::operator_ends(alloc, draft),
         End::Inside => {
-            expressions::inside_ends(draft);
+            operators::inside_ends(draft);
             Ok(())
         }
         End::Statement => statements::statement_ends(alloc, draft),

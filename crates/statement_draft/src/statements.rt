@@ -1,21 +1,14 @@
 //! Sessions, works and statements, as their words come.
-ghost use Rattle.std.specs.Prelude.{◌≡◌, ◌+◌, ◌*◌, ◌++◌, ◌∷◌, [], IfOk, OnOk, nat_eq, slice_get, option_and_then, List, ℕ};
-ghost use Rattle.std.specs.List.{list_any};
+ghost use Rattle.std.specs.Prelude.{◌≡◌, ◌+◌, ◌*◌, IfOk, OnOk, slice_get, option_and_then, List};
 ghost use Rattle.statement_draft.specs.Names.{column_named};
-ghost use Rattle.statement_draft.specs.Expressions.{bytes_up};
-ghost use Rattle.statement_draft.specs.StatementEvents.{session_begins, times, statement_kind_of, no_statement, statement_begins, statement_came, work_begins, scope_of, table_found, table_came, insert_came, selected_came, Selected, select_found, selected_from, places_from, selected, names_judged, select_table_came, where_came, sets_begin, statement_table, set_found, column_set, set_named, set_came, set_fault, set_kind, with_assign, assign_ends, sets_end, access_named, access_came, mode_came, insert_row_ends, statement_drafted, statement_kept, statement_ends, work_ends, session_ends};
+ghost use Rattle.statement_draft.specs.StatementEvents.{session_begins, times, statement_kind_of, no_statement, statement_begins, statement_came, work_begins, scope_of, table_came, insert_came, selected_came, select_found, selected_from, places_from, selected, names_judged, select_table_came, where_came, access_named, access_came, mode_came, insert_row_ends, statement_drafted, statement_ends, work_ends, session_ends};
 
 use crate::draft::{Draft, NameAt, NewStatement, RowOf, Scope, StatementKind};
-use crate::expressions::expression_ends;
-use crate::faults::{Fault, Reason, noted, noted_as};
-use crate::kinds::Kind;
+use crate::faults::{Fault, Reason, noted};
 use crate::names::{column_named, is_long, table_named};
 use crate::rows::{kinds_of, record_counted};
 use crate::tables::contains;
-use sql_base::{
-    Access, Assign, Column, ColumnKind, Expr, List, Mode, Name, NoMemory, Row, Statement, TableDef,
-    Work,
-};
+use sql_base::{Access, Column, List, Mode, Name, NoMemory, Row, Statement, Work};
 use statement_grammar::is_key;
 use statement_words::{Keyword, Word};
 use std::alloc::Global;
@@ -231,149 +224,6 @@ pub fn where_came(at: u32, draft: &mut Draft)
     ensures { draft.new ≡ where_came at draft.old }
 {
     draft.statement.where_at = at;
-}
-
-pub fn sets_begin(at: u32, draft: &mut Draft)
-    ensures { draft.new ≡ sets_begin at draft.old }
-{
-    draft.statement.sets_at = at;
-}
-
-/// The first fault, with that of a column that is set, and the column.
-fn set_judged(
-    table: &TableDef,
-    name: &Name,
-    at: u32,
-    columns: &[u8],
-    first: Option<Fault>,
-) -> (Option<u8>, Option<Fault>)
-    ensures { (result.0, result.1) ≡ set_found table.now (column_named table.now.columns name.now) at columns.now first }
-{
-    match column_named(table.columns.items(), name) {
-        Some(place) => {
-            let again = contains(columns, place);
-            let first = noted(again, Reason::Repeated, at, first);
-            let key = contains(table.key.items(), place);
-            (Some(place), noted(key, Reason::WrongType, at, first))
-        }
-        None => (None, noted(true, Reason::UnknownName, at, first)),
-    }
-}
-
-/// The column that is set, and the first fault; nothing is judged of an unknown table.
-fn set_found(
-    draft: &Draft,
-    name: &Name,
-    at: u32,
-    first: Option<Fault>,
-) -> (Option<u8>, Option<Fault>)
-    ensures { (result.0, result.1) ≡ column_set (statement_table draft.now) name.now at draft.now.statement.columns first }
-{
-    let Some(place) = draft.statement.table else {
-        return (None, first);
-    };
-    let Some(table) = draft.tables.items().get(place as usize) else {
-        return (None, first);
-    };
-    set_judged(table, name, at, draft.statement.columns.items(), first)
-}
-
-pub fn set_came(name: &Name, at: u32, draft: &mut Draft) -> Result<(), NoMemory>
-    ensures { OnOk result (draft.new ≡ set_came name.now at draft.old) }
-{
-    let first = noted(is_long(name), Reason::OverLimit, at, draft.first);
-    let (column, first) = set_found(draft, name, at, first);
-    draft.first = first;
-    draft.statement.column = column;
-    draft.statement.column_at = at;
-    if let Some(place) = column {
-        draft.statement.columns.push(place)?;
-    }
-    Ok(())
-}
-
-fn set_fault(column: Option<ColumnKind>, kind: Option<Kind>) -> Option<Reason>
-    ensures { result ≡ set_fault column kind }
-{
-    match (column, kind) {
-        (Some(ColumnKind::Int), Some(Kind::Number)) => None,
-        (Some(ColumnKind::Int), Some(Kind::Text(_))) => Some(Reason::WrongType),
-        (Some(ColumnKind::Int), Some(Kind::Truth)) => Some(Reason::WrongType),
-        (Some(ColumnKind::Char(_)), Some(Kind::Number)) => Some(Reason::WrongType),
-        (Some(ColumnKind::Char(_)), Some(Kind::Truth)) => Some(Reason::WrongType),
-        (Some(ColumnKind::Char(width)), Some(Kind::Text(len))) => {
-            if (width as usize) < len {
-                Some(Reason::TextTooLong)
-            } else {
-                None
-            }
-        }
-        (Some(_), None) => None,
-        (None, _) => None,
-    }
-}
-
-/// The kind of the column that is set.
-fn set_kind(draft: &Draft) -> Option<ColumnKind>
-    ensures { result ≡ set_kind draft.now }
-{
-    let Some(column) = draft.statement.column else {
-        return None;
-    };
-    let Some(place) = draft.statement.table else {
-        return None;
-    };
-    let Some(table) = draft.tables.items().get(place as usize) else {
-        return None;
-    };
-    match table.columns.items().get(column as usize) {
-        Some(column) => Some(column.kind),
-        None => None,
-    }
-}
-
-fn assigned(
-    column: Option<u8>,
-    value: Option<Expr>,
-    sets: &mut List<Assign>,
-) -> Result<(), NoMemory>
-    ensures { OnOk result (sets.new ≡ with_assign column value sets.old) }
-{
-    match (column, value) {
-        (Some(column), Some(value)) => sets.push(Assign { column, value }),
-        (Some(_), None) => Ok(()),
-        (None, _) => Ok(()),
-    }
-}
-
-/// A length and that of a value with 3 bytes before it, counted up to 8,193.
-fn code_with(code: u16, value: u16) -> u16
-    ensures { result ≡ bytes_up (code + 3 + value) }
-{
-    (u32::from(code) + 3 + u32::from(value)).min(8_193) as u16
-}
-
-pub fn assign_ends(alloc: Global, draft: &mut Draft) -> Result<(), NoMemory>
-    ensures { OnOk result (draft.new ≡ assign_ends draft.old) }
-{
-    let value = expression_ends(alloc, draft);
-    let wrong = set_fault(set_kind(draft), value.kind);
-    draft.first = noted_as(wrong, draft.statement.column_at, draft.first);
-    draft.statement.code = code_with(draft.statement.code, value.code);
-    let column = draft.statement.column;
-    assigned(column, value.tree, &mut draft.statement.sets)
-}
-
-pub fn sets_end(draft: &mut Draft)
-    ensures { draft.new ≡ sets_end draft.old }
-{
-    let over = draft.statement.code > 8_192;
-    draft.first = noted(
-        over,
-        Reason::OverLimit,
-        draft.statement.sets_at,
-        draft.first,
-    );
 }
 
 fn access_of(word: &Word) -> Access
