@@ -46,7 +46,7 @@ in_line draws part count state = map (λ i. part i (after (draws * i) state)) (r
 
 -- ---- the table and its records
 
--- a column compared_with with a number
+-- a column compared with a number
 abbrev pub compared_with : ℕ → CompareOp → ℕ → Expr
 compared_with column op n = expr.Compare op (expr.Column column) (expr.Number (pos n))
 

@@ -104,7 +104,7 @@ pub record Printed : Type 0 where
 abbrev pub leaf : List Word → Printed
 leaf words = record { words = words; is_operator = false }
 
--- an operand_words that is itself an operator stands in parentheses
+-- an operand that is itself an operator stands in parentheses
 abbrev pub operand_words : Printed → List Word
 operand_words p = if p.is_operator then in_parentheses p.words else p.words
 

@@ -121,7 +121,7 @@ unfolding behind
 close_ends = record { product = refl; sum = refl; compare = refl; both = refl; either = refl }
 
 abbrev closed : Operand → Draft → Option Fault → ℕ → Draft
-closed x d first in_parentheses = record d { first = first; expression = record d.expression { operands = x ∷ d.expression.operands; in_parentheses = in_parentheses } }
+closed x d first inside = record d { first = first; expression = record d.expression { operands = x ∷ d.expression.operands; inside = inside } }
 
 closed_same : (x : Operand) (at : ℕ) (d : Draft) → d.expression.inside < 64 → ended ends.Inside (with_operand x (opened at d)) ≡ with_operand x d
 unfolding ended
