@@ -24,7 +24,7 @@ use Rattle.partition_state.specs.State.{State}
 use Rattle.partition_state.specs.declared.entries.Entry.{Entry}
 use Rattle.session_grammar.specs.Follows.{IsPart, Reads, asker, works_of}
 use Rattle.record_laws.proofs.Beginning.{legal-so_far}
-use Rattle.record_laws.proofs.Finishing.{IsDrawnBy, drawn_by, drawn_where}
+use Rattle.record_laws.proofs.AttemptDraws.{IsDrawnBy, drawn_by, drawn_where}
 use Rattle.record_laws.proofs.Journals.{find_named}
 use Rattle.run_record.specs.Base.{base, base_of, by_table, changes}
 use Rattle.run_record.specs.Legal.{Legal, drawn_in, in_journal}
