@@ -1,5 +1,5 @@
 -- A file as blocks of cells, and the block to which a key belongs.
-use Rattle.std.specs.Prelude.{◌≡◌, ℕ, ◌-◌, ◌<◌, min, List, [], ◌∷◌, ◌++◌, length, Bool, false, true, Option, None, Vec, vec_len, vec_capacity}
+use Rattle.std.specs.Prelude.{◌≡◌, ℕ, ◌-◌, ◌<◌, min, List, [], ◌∷◌, ◌++◌, length, map, Bool, false, true, Option, None, Vec, vec_len, vec_capacity}
 use Rattle.std.specs.List.{prefix_len, AllByRecursion}
 use Rattle.sql_base.specs.Keys.{key_le}
 use Rattle.sql_base.specs.declared.key_ranges.Start.{Start}
@@ -60,4 +60,8 @@ AreEmpty blocks = AllByRecursion (λ block. length block ≡ 0) blocks
 
 -- the cells of the blocks; each new one may need an empty block and a place among the others
 abbrev pub held_in : {Z : Type 0} → Vec (List Cell) Z → Vec (List Cell) Z → Held
-held_in blocks empty = record { cells = joined blocks.items; spare = min (vec_len empty) (vec_capacity blocks - vec_len blocks) }
+held_in blocks empty = record {
+  cells = joined blocks.items;
+  spare = min (vec_len empty) (vec_capacity blocks - vec_len blocks);
+  sizes = map length blocks.items;
+}

@@ -6,10 +6,11 @@ use Rattle.sql_base.specs.declared.values.Value.{Value}
 use Rattle.key_sequenced.specs.Cells.{ending, rewritten}
 use Rattle.key_sequenced.specs.declared.Cell.{Cell}
 
--- the cells, and how many more there is room for
+-- the cells, how many more there is room for, and how many of them lie in each block
 pub record Held : Type 0 where
   pub cells : List Cell
   pub spare : ℕ
+  pub sizes : List ℕ
 
 -- the cell behind those up to its key
 abbrev pub with_cell : Cell → List Cell → List Cell

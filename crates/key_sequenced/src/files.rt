@@ -126,7 +126,8 @@ impl File {
 
     /// How many cells each block has, in key order: from 1 to 64.
     pub fn shape(&self) -> Result<List<u32>, NoMemory>
-        ensures sizes { IfOk result (All IsSize) }
+        ensures sizes { IfOk result (λ sizes. sizes ≡ self.now.sizes) }
+        ensures each { IfOk result (All IsSize) }
         ensures sum { IfOk result (λ sizes. sum sizes ≡ length self.now.cells) }
     {
         let mut sizes = List::new(self.alloc);
