@@ -76,9 +76,12 @@ module _ (script : Script) (kept : RunRecord) (ways : List UnderWay) (legal : Le
   IsUpTo sync (Asked a x q l w) = x ≤ sync
   IsUpTo sync (Drew n f w) = Unit {0}
 
-  -- and no entry is later than it
-  pub never_passed : (s : Sending) → s.part ≡ part → IsOpen (way_of ways session) s → now.last ≤ s.sync
-  never_passed s here is_open = of its_last
+  -- no entry of the session is later than its request under way
+  pub none_later : (s : Sending) → s.part ≡ part → IsOpen (way_of ways session) s → AllByRecursion (λ (e : Entry). e.sync ≤ s.sync) (filter (by_opener session) (history_of kept part))
+  none_later s here is_open =
+      served_all (IsUpTo s.sync) (λ (e : Entry). e.sync ≤ s.sync) (λ a x q l w f u is. omega (arith, u, is.0)) (filter (is_for s.part) (asked_so_far kept ways session)) (filter (by_opener session) (history_of kept part))
+      (up_to (way_of ways session) (legal.logs_begin.each session lies).0 is_open)
+      (subst (λ n. AreServed (filter (is_for n) (asked_so_far kept ways session)) (filter (by_opener session) (history_of kept part))) (sym here) (legal.entries_asked.served part session within lies))
     where
       up_to : (way : UnderWay) → AreAbove (log_of kept session) way → IsOpen way s → AllByRecursion (IsUpTo s.sync) (filter (is_for s.part) (log_of kept session ++ unanswered way))
       up_to (Drawing name floor) above none = absurd none
@@ -94,17 +97,15 @@ module _ (script : Script) (kept : RunRecord) (ways : List UnderWay) (legal : Le
           of_one (Asked a x q l w) above for_it = let lt = above (eqb-true a s.part for_it) in omega (arith, lt)
           of_one (Drew n f w) above for_it = tt
 
-      entries : AllByRecursion (λ (e : Entry). e.sync ≤ s.sync) (filter (by_opener session) (history_of kept part))
-      entries =
-          served_all (IsUpTo s.sync) (λ (e : Entry). e.sync ≤ s.sync) (λ a x q l w f u is. omega (arith, u, is.0)) (filter (is_for s.part) (asked_so_far kept ways session)) (filter (by_opener session) (history_of kept part))
-          (up_to (way_of ways session) (legal.logs_begin.each session lies).0 is_open)
-          (subst (λ n. AreServed (filter (is_for n) (asked_so_far kept ways session)) (filter (by_opener session) (history_of kept part))) (sym here) (legal.entries_asked.served part session within lies))
-
+  -- and so the last one isn't
+  pub never_passed : (s : Sending) → s.part ≡ part → IsOpen (way_of ways session) s → now.last ≤ s.sync
+  never_passed s here is_open = of its_last
+    where
       of : IsOfLast session (history_of kept part) new_opener now → now.last ≤ s.sync
       of (inl none) = omega (arith, none.0)
       of (inr one) =
           let mine = contains_filter (by_opener session) (history_of kept part) one.0 (eq-eqb one.0.opener session one.2) one.1 in
-          let low = all_in (λ (e : Entry). e.sync ≤ s.sync) one.0 (filter (by_opener session) (history_of kept part)) mine entries in
+          let low = all_in (λ (e : Entry). e.sync ≤ s.sync) one.0 (filter (by_opener session) (history_of kept part)) mine (none_later s here is_open) in
           omega (arith, low, one.3)
 
   -- a message with a sync up to the last one was served before

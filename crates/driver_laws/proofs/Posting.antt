@@ -15,7 +15,7 @@ use Rattle.run_record.specs.Openings.{log_of}
 use Rattle.run_record.specs.declared.records.RunRecord.{RunRecord}
 use Rattle.record_laws.specs.SoFar.{LegalSoFar, way_of}
 use Rattle.record_laws.proofs.Completing.{open_entry}
-use Rattle.driver_laws.specs.Moves.{IsPosted, next_drawn, with_drawn, with_log, with_way}
+use Rattle.driver_laws.specs.Moves.{HasAsked, IsPosted, next_drawn, with_drawn, with_log, with_way}
 use Rattle.session_grammar.specs.UnderWay.{AreAbove, Sending, Awaiting, Drawing, UnderWay, unanswered, IsOpen, IsPutIn, TakesStamp, TakesAnswer}
 use Rattle.driver_laws.proofs.Openings.{open_for, the_open}
 use Rattle.driver_laws.proofs.Seats.{one_other, one_same}
@@ -30,13 +30,9 @@ to_open [] x k lt is = absurd (omega (arith, lt))
 to_open (s ∷ sends) x zero lt is = (zero, omega arith, ap open_entry is)
 to_open (s ∷ sends) x (suc k) lt is = let r = to_open sends x k (omega (arith, lt)) is in (suc r.0, omega (arith, r.1), r.2)
 
-open_asked : (way : UnderWay) (x : Sending) → IsOpen way x → Contains (unanswered way) (open_entry x)
+pub open_asked : (way : UnderWay) (x : Sending) → IsOpen way x → Contains (unanswered way) (open_entry x)
 open_asked (Awaiting sends) x h = to_open sends x h.0 h.1 h.2
 open_asked (Drawing name floor) x h = absurd h
-
--- what a log with what is under way asks
-abbrev Asks : List LogEntry → UnderWay → ℕ → ℕ → Request → Type 0
-Asks log way part sync request = (losses : ℕ) × (answer : Answer) × Contains (log ++ unanswered way) (Asked part sync request losses answer)
 
 put_front : (front back : List LogEntry) (entry z : LogEntry) → Contains (front ++ back) z → Contains (front ++ entry ∷ back) z
 put_front front back entry z h =
@@ -47,9 +43,9 @@ put_front front back entry z h =
 
 module _ (part sync : ℕ) (request : Request) where
   -- a request under way is answered
-  asks_taken : (log after : List LogEntry) (sends : List Sending) (way : UnderWay) (s : Sending) (losses : ℕ) (answer : Answer) → Contains sends s → AreAbove log (Awaiting sends)
+  pub asks_taken : (log after : List LogEntry) (sends : List Sending) (way : UnderWay) (s : Sending) (losses : ℕ) (answer : Answer) → Contains sends s → AreAbove log (Awaiting sends)
       → IsPutIn s.part (Asked s.part s.sync s.request losses answer) log after → ((other : Sending) → Contains sends other → other.part ≢ s.part → IsOpen way other)
-      → Asks log (Awaiting sends) part sync request → Asks after way part sync request
+      → HasAsked log (Awaiting sends) part sync request → HasAsked after way part sync request
   asks_taken log after sends way s losses answer is_in above put stay h =
       elim (Contains-append_cases log (map open_entry sends) (Asked part sync request h.0 h.1) h.2) [
         | inl old ↦ (h.0, h.1, Contains-append_left after (unanswered way) (Asked part sync request h.0 h.1) (from_log (Asked part sync request h.0 h.1) old))
@@ -65,10 +61,10 @@ module _ (part sync : ℕ) (request : Request) where
       its : Contains after (Asked s.part s.sync s.request losses answer)
       its = subst (λ (es : List LogEntry). Contains es (Asked s.part s.sync s.request losses answer)) (sym put.3) (Contains-append_right put.0 (Asked s.part s.sync s.request losses answer ∷ put.1) (Asked s.part s.sync s.request losses answer) (zero, omega arith, refl))
 
-      from_open : (x : Sending) × Contains sends x × (open_entry x ≡ Asked part sync request h.0 h.1) → Asks after way part sync request
+      from_open : (x : Sending) × Contains sends x × (open_entry x ≡ Asked part sync request h.0 h.1) → HasAsked after way part sync request
       from_open o = elim (cases_eq o.0.part s.part) [ inl same ↦ of_it same | inr differ ↦ of_other differ ]
         where
-          of_it : o.0.part ≡ s.part → Asks after way part sync request
+          of_it : o.0.part ≡ s.part → HasAsked after way part sync request
           of_it same =
               let own = the_open log (Awaiting sends) s above is_in in
               let other = the_open log (Awaiting sends) o.0 above o.1 in
@@ -80,40 +76,41 @@ module _ (part sync : ℕ) (request : Request) where
               let here : Asked s.part s.sync s.request losses answer ≡ Asked part sync request losses answer = cc (parts, syncs, requests) in
               (losses, answer, Contains-append_left after (unanswered way) (Asked part sync request losses answer) (subst (Contains after) here its))
 
-          of_other : o.0.part ≢ s.part → Asks after way part sync request
+          of_other : o.0.part ≢ s.part → HasAsked after way part sync request
           of_other differ =
               (h.0, h.1, Contains-append_right after (unanswered way) (Asked part sync request h.0 h.1) (subst (Contains (unanswered way)) o.2 (open_asked way o.0 (stay o.0 o.1 differ))))
+
+  -- a commit is drawn
+  pub asks_drawn : (log after : List LogEntry) (way : UnderWay) (name : TxnName) (floor stamp : ℕ) → after ≡ log ++ Drew name floor (Stamp stamp) ∷ [] → HasAsked log (Drawing name floor) part sync request → HasAsked after way part sync request
+  asks_drawn log after way name floor stamp is h =
+      let it = Asked part sync request h.0 h.1 in
+      let old : Contains log it = elim (Contains-append_cases log [] it h.2) [ inl a ↦ a | inr b ↦ absurd (omega (arith, b.1)) ] in
+      (h.0, h.1, Contains-append_left after (unanswered way) it (subst (λ (es : List LogEntry). Contains es it) (sym is) (Contains-append_left log (Drew name floor (Stamp stamp) ∷ []) it old)))
 
 module _ (script : Script) (kept : RunRecord) (ways : List UnderWay) (legal : LegalSoFar script kept ways) (many : length ways ≡ length script.sessions)
     (session : ℕ) (lies : Lies 1 (length script.sessions) session) (log : List LogEntry) (way : UnderWay) (n part sync : ℕ) (request : Request) (lies_too : Lies 1 (length script.sessions) n) where
   -- where the session's own stay, all do
-  posted_still : (Asks (log_of kept session) (way_of ways session) part sync request → Asks log way part sync request) → IsPosted kept ways n part sync request → IsPosted (with_log kept session log) (with_way ways session way) n part sync request
+  posted_still : (HasAsked (log_of kept session) (way_of ways session) part sync request → HasAsked log way part sync request) → IsPosted kept ways n part sync request → IsPosted (with_log kept session log) (with_way ways session way) n part sync request
   posted_still own h = elim (cases_eq n session) [ inl same ↦ at_own same | inr differ ↦ elsewhere differ ]
     where
-      at_own : n ≡ session → Asks (log_of (with_log kept session log) n) (way_of (with_way ways session way) n) part sync request
+      at_own : n ≡ session → HasAsked (log_of (with_log kept session log) n) (way_of (with_way ways session way) n) part sync request
       at_own same =
-          let now = own (subst (λ m. Asks (log_of kept m) (way_of ways m) part sync request) same h) in
-          subst (λ m. Asks (log_of (with_log kept session log) m) (way_of (with_way ways session way) m) part sync request) (sym same)
-          (subst (λ (w : UnderWay). Asks (log_of (with_log kept session log) session) w part sync request) (sym (one_same (Awaiting []) session (length script.sessions) ways way lies many))
-          (subst (λ (es : List LogEntry). Asks es way part sync request) (sym (one_same [] session (length script.sessions) kept.logs log lies legal.logs_begin.logs)) now))
+          let now = own (subst (λ m. HasAsked (log_of kept m) (way_of ways m) part sync request) same h) in
+          subst (λ m. HasAsked (log_of (with_log kept session log) m) (way_of (with_way ways session way) m) part sync request) (sym same)
+          (subst (λ (w : UnderWay). HasAsked (log_of (with_log kept session log) session) w part sync request) (sym (one_same (Awaiting []) session (length script.sessions) ways way lies many))
+          (subst (λ (es : List LogEntry). HasAsked es way part sync request) (sym (one_same [] session (length script.sessions) kept.logs log lies legal.logs_begin.logs)) now))
 
-      elsewhere : n ≢ session → Asks (log_of (with_log kept session log) n) (way_of (with_way ways session way) n) part sync request
+      elsewhere : n ≢ session → HasAsked (log_of (with_log kept session log) n) (way_of (with_way ways session way) n) part sync request
       elsewhere differ =
-          subst (λ (w : UnderWay). Asks (log_of (with_log kept session log) n) w part sync request) (sym (one_other (Awaiting []) session n (length script.sessions) ways way lies lies_too differ))
-          (subst (λ (es : List LogEntry). Asks es (way_of ways n) part sync request) (sym (one_other [] session n (length script.sessions) kept.logs log lies lies_too differ)) h)
+          subst (λ (w : UnderWay). HasAsked (log_of (with_log kept session log) n) w part sync request) (sym (one_other (Awaiting []) session n (length script.sessions) ways way lies lies_too differ))
+          (subst (λ (es : List LogEntry). HasAsked es (way_of ways n) part sync request) (sym (one_other [] session n (length script.sessions) kept.logs log lies lies_too differ)) h)
 
   pub posted_taken : (sends : List Sending) (s : Sending) (losses : ℕ) (answer : Answer) → way_of ways session ≡ Awaiting sends → Contains sends s → TakesAnswer script session (log_of kept session) sends s losses answer log way
       → IsPosted kept ways n part sync request → IsPosted (with_log kept session log) (with_way ways session way) n part sync request
   posted_taken sends s losses answer is is_in takes =
       posted_still (λ h. asks_taken part sync request (log_of kept session) log sends way s losses answer is_in (subst (AreAbove (log_of kept session)) is (legal.logs_begin.each session lies).0) takes.put_in takes.stay
-      (subst (λ (w : UnderWay). Asks (log_of kept session) w part sync request) is h))
+      (subst (λ (w : UnderWay). HasAsked (log_of kept session) w part sync request) is h))
 
   pub posted_drawn : (name : TxnName) (floor : ℕ) → way_of ways session ≡ Drawing name floor → TakesStamp script session (log_of kept session) (next_drawn kept name floor) log way
       → IsPosted kept ways n part sync request → IsPosted (with_drawn (with_log kept session log) (next_drawn kept name floor)) (with_way ways session way) n part sync request
-  posted_drawn name floor is stamps = posted_still (λ h. drew (subst (λ (w : UnderWay). Asks (log_of kept session) w part sync request) is h))
-    where
-      drew : Asks (log_of kept session) (Drawing name floor) part sync request → Asks log way part sync request
-      drew h =
-          let it = Asked part sync request h.0 h.1 in
-          let old : Contains (log_of kept session) it = elim (Contains-append_cases (log_of kept session) [] it h.2) [ inl a ↦ a | inr b ↦ absurd (omega (arith, b.1)) ] in
-          (h.0, h.1, Contains-append_left log (unanswered way) it (subst (λ (es : List LogEntry). Contains es it) (sym stamps.put_in) (Contains-append_left (log_of kept session) (Drew name floor (Stamp (next_drawn kept name floor).stamp) ∷ []) it old)))
+  posted_drawn name floor is stamps = posted_still (λ h. asks_drawn part sync request (log_of kept session) log way name floor (next_drawn kept name floor).stamp stamps.put_in (subst (λ (w : UnderWay). HasAsked (log_of kept session) w part sync request) is h))

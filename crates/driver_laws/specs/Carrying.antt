@@ -1,5 +1,6 @@
 -- Which sendings of a log its wire lost.
-use Rattle.std.specs.Prelude.{◌≡◌, ◌≢◌, ℕ, List, [], ◌∷◌, ◌++◌, map, filter_map, replicate, nat_lt, Option, Some, None, Bool, true, false, ◌==◌, if◌then◌else◌}
+use Rattle.std.specs.Prelude.{◌≡◌, ◌≢◌, ℕ, ◌-◌, List, [], ◌∷◌, ◌++◌, length, map, filter_map, replicate, slice_get, nat_lt, Option, Some, None, Bool, true, false, ◌==◌, if◌then◌else◌}
+use Rattle.sql_base.specs.Scripts.{Lies}
 use Rattle.outside.specs.Wire.{Told, is_loss}
 use Rattle.outside.specs.declared.wire.Passage.{Passage}
 use Rattle.session_grammar.specs.declared.logs.Answer.{Answer}
@@ -30,6 +31,11 @@ passage_of n act = None
 abbrev pub passages_of : ℕ → List Act → List Passage
 passages_of n acts = filter_map (passage_of n) acts
 
+-- the answers that a wire tells from now on: those of `first`, and then those of `round` over and over
+pub record Telling : Type 0 where
+  pub first : List Passage
+  pub round : List Passage
+
 -- the first answers of the wire of session n are the sendings of its log; where there are acts, its Sends have just these passages
 pub record Carried (kept : RunRecord) (n : ℕ) (first round : List Passage) : Type 0 where
   pub passages : List Passage
@@ -42,3 +48,7 @@ pub record Carried (kept : RunRecord) (n : ℕ) (first round : List Passage) : T
 pub record IsCarried (first round passages later : List Passage) (log : List LogEntry) (tail : List Bool) : Type 0 where
   pub told : Told first round passages later
   pub losses : map is_loss passages ≡ sendings log ++ tail
+
+-- the wire of each session told what its log lost
+abbrev pub AllCarried : List Telling → RunRecord → Type 0
+AllCarried told kept = (n : ℕ) (t : Telling) → Lies 1 (length kept.logs) n → slice_get told (n - 1) ≡ Some t → Carried kept n t.first t.round

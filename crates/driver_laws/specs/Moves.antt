@@ -37,12 +37,16 @@ with_acts kept acts = record kept { acts = acts }
 abbrev pub with_way : List UnderWay → ℕ → UnderWay → List UnderWay
 with_way ways session way = slice_set ways (session - 1) way
 
+-- with this under way behind its log, a session has asked this of a partition, whatever came of it
+abbrev pub HasAsked : List LogEntry → UnderWay → ℕ → ℕ → Request → Type 0
+HasAsked log way part sync request = (losses : ℕ) × (answer : Answer) × Contains (log ++ unanswered way) (Asked part sync request losses answer)
+
 -- all that a session has asked so far, and so each message that it posted
 abbrev pub asked_so_far : RunRecord → List UnderWay → ℕ → List LogEntry
 asked_so_far kept ways session = log_of kept session ++ unanswered (way_of ways session)
 
 abbrev pub IsPosted : RunRecord → List UnderWay → ℕ → ℕ → ℕ → Request → Type 0
-IsPosted kept ways session part sync request = (losses : ℕ) × (answer : Answer) × Contains (asked_so_far kept ways session) (Asked part sync request losses answer)
+IsPosted kept ways session part sync request = HasAsked (log_of kept session) (way_of ways session) part sync request
 
 -- the entry is what the partition answers next to a request with a new sync
 abbrev pub IsNext : Script → RunRecord → ℕ → Entry → Type 0

@@ -11,12 +11,11 @@ use Rattle.run_record.specs.declared.records.RunRecord.{RunRecord}
 use Rattle.serial_laws.proofs.Finished.{finished_tile}
 use Rattle.serial_passes.proofs.Serially.{legal_is_serial}
 use Rattle.driver_laws.specs.Scheduling.{Scheduled}
-use Rattle.step_world.specs.Runs.{AllCarried}
-use Rattle.step_world.specs.Tellings.{Telling}
 use Rattle.record_text.specs.Summary.{IsSummary}
 use Rattle.nonstop_sql.specs.Ends.{IsRun, IsSaid, Makes, Outside}
 use Rattle.nonstop_sql.specs.declared.commands.Command.TheVariants.{Steps}
 use Rattle.alone_laws.proofs.OneSession.{alone_is_one_thread}
+use Rattle.driver_laws.specs.Carrying.{AllCarried, Telling}
 
 pub headlined : (script : Script) (kept : RunRecord) → Legal script kept → ((session : ℕ) → Lies 1 (length script.sessions) session → in_line script session (log_of kept session)) → Headline script kept
 headlined script kept legal lines =

@@ -15,14 +15,13 @@ use Rattle.run_record.specs.declared.records.RunRecord.{RunRecord}
 use Rattle.record_text.specs.Summary.{IsSummary}
 use Rattle.script_maker.specs.Making.{made}
 use Rattle.driver_laws.specs.Scheduling.{Scheduled}
-use Rattle.step_world.specs.Runs.{AllCarried}
-use Rattle.step_world.specs.Tellings.{Telling}
 use Rattle.outside.specs.Collecting.{Collecting}
 use Rattle.run_record.specs.Seen.{seen}
 use Rattle.trace_report.specs.Reports.{behind_all, texts}
 use Rattle.nonstop_sql.specs.declared.commands.Command.{Command}
 use Rattle.nonstop_sql.specs.declared.commands.Command.TheVariants as command
 use Rattle.nonstop_sql.specs.declared.outcome.Outcome.{Outcome}
+use Rattle.driver_laws.specs.Carrying.{AllCarried, Telling}
 
 -- what was kept of a run has the headline; its acts are those that the choices picked, and its losses those that the wires told
 pub record IsRun (choices : List ℕ) (wires : List Telling) (script : Script) (kept : RunRecord) : Type 0 where

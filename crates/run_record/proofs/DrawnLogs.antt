@@ -9,14 +9,14 @@ use Rattle.run_record.specs.Openings.{log_of}
 use Rattle.run_record.specs.declared.records.RunRecord.{RunRecord}
 
 -- an element of joined lists stands in one of them
-in_one : {X A : Type 0} (f : X → List A) (xs : List X) (a : A) → Contains (flat_map f xs) a → (i : ℕ) × (x : X) × (slice_get xs i ≡ Some x) × Contains (f x) a
+pub in_one : {X A : Type 0} (f : X → List A) (xs : List X) (a : A) → Contains (flat_map f xs) a → (i : ℕ) × (x : X) × (slice_get xs i ≡ Some x) × Contains (f x) a
 in_one f [] a h = absurd (omega (arith, h.1))
 in_one f (x ∷ xs) a h = elim (Contains-append_cases (f x) (flat_map f xs) a h) [
   | inl here ↦ (zero, x, refl, here)
   | inr later ↦ let at = in_one f xs a later in (suc at.0, at.1, at.2, at.3)
 ]
 
-of_one : {X A : Type 0} (f : X → List A) (xs : List X) (i : ℕ) (x : X) (a : A) → slice_get xs i ≡ Some x → Contains (f x) a → Contains (flat_map f xs) a
+pub of_one : {X A : Type 0} (f : X → List A) (xs : List X) (i : ℕ) (x : X) (a : A) → slice_get xs i ≡ Some x → Contains (f x) a → Contains (flat_map f xs) a
 of_one f [] i x a at h = absurd (cc)
 of_one f (y ∷ xs) zero x a at h = let same : y ≡ x = cc in Contains-append_left (f y) (flat_map f xs) a (subst (λ z. Contains (f z) a) (sym same) h)
 of_one f (y ∷ xs) (suc i) x a at h = Contains-append_right (f y) (flat_map f xs) a (of_one f xs i x a at h)

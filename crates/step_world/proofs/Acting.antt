@@ -10,8 +10,9 @@ use Rattle.run_record.specs.declared.records.Act.TheVariants.{Send, Take, ByHand
 use Rattle.record_laws.specs.SoFar.{LegalSoFar}
 use Rattle.driver_laws.specs.Scheduling.{Adds, IsOldest, OfSession, actor_of, is_by}
 use Rattle.driver_laws.proofs.Scheduling.{acts_more}
-use Rattle.step_world.specs.Tellings.{Telling}
-use Rattle.step_world.specs.Scaffold.Worlds.{Driving, EachAt, IsProcess, IsSeat, Scene, Setting, WasPosted, has_some, live_in, next_actor, record_of, seat_steps, steps_in, ways_of}
+use Rattle.requester_fs.specs.Beginnings.{EachAt}
+use Rattle.driver_laws.specs.Carrying.{Telling}
+use Rattle.step_world.specs.Scaffold.Worlds.{Driving, IsProcess, IsSeat, Scene, Setting, WasPosted, has_some, live_in, next_actor, record_of, seat_steps, steps_in, ways_of}
 use Rattle.step_world.specs.declared.processes.DiskProcess.{DiskProcess}
 use Rattle.step_world.specs.declared.seats.Seat.{Seat}
 use Rattle.step_world.proofs.Places.{each_set, get_set_other, same_or}

@@ -24,9 +24,10 @@ use Rattle.driver_laws.specs.Moves.{IsPosted, with_acts, with_log, with_way}
 use Rattle.driver_laws.specs.Scheduling.{Adds, Awaited, OfSession, actor_of, awaited, awaits, is_serve_of}
 use Rattle.driver_laws.proofs.Posting.{posted_taken}
 use Rattle.driver_laws.proofs.Starting.{other_acts}
+use Rattle.requester_fs.specs.Beginnings.{EachAt}
+use Rattle.driver_laws.specs.Carrying.{Telling}
 use Rattle.step_world.specs.Scaffold.Seats.{IsAnswered}
-use Rattle.step_world.specs.Tellings.{Telling}
-use Rattle.step_world.specs.Scaffold.Worlds.{Driving, EachAt, IsProcess, IsTold, Scene, Setting, Stands, WasPosted, awaited_of, has_some, next_actor, record_of, request_in, seat_steps, steps_in, steps_with, ways_of}
+use Rattle.step_world.specs.Scaffold.Worlds.{Driving, IsProcess, IsTold, Scene, Setting, Stands, WasPosted, awaited_of, has_some, next_actor, record_of, request_in, seat_steps, steps_in, steps_with, ways_of}
 use Rattle.step_world.specs.declared.processes.DiskProcess.{DiskProcess}
 use Rattle.step_world.specs.declared.seats.Seat.{Seat}
 use Rattle.step_world.proofs.Acting.{next_scene, session_acts}

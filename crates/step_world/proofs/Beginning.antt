@@ -12,15 +12,16 @@ use Rattle.requester_fs.specs.Asking.{Asking}
 use Rattle.run_record.specs.Openings.{openings}
 use Rattle.run_record.specs.declared.records.RunRecord.{RunRecord}
 use Rattle.record_laws.specs.SoFar.{LegalSoFar, way_of}
-use Rattle.driver_laws.specs.Carrying.{sendings}
+use Rattle.driver_laws.specs.Carrying.{Telling, sendings}
 use Rattle.driver_laws.specs.Moves.{nothing_yet}
 use Rattle.driver_laws.specs.Scheduling.{ScheduledSoFar, mail_after, posted_of, steps_of}
 use Rattle.driver_laws.proofs.Starting.{begun}
-use Rattle.step_world.specs.Scaffold.Openings.{AreOpened, is_opened}
-use Rattle.step_world.specs.Runs.{AreNew, AreSeated, IsNew, new_seat}
+use Rattle.partition_core.specs.Kept.{Kept, opened_with}
+use Rattle.requester_fs.specs.Beginnings.{AreNew, EachAt, IsNew}
+use Rattle.step_world.specs.Scaffold.Openings.{AreOpened, is_opened, new_process}
+use Rattle.step_world.specs.Runs.{AreSeated, new_seat}
 use Rattle.step_world.specs.Scaffold.Seats.{seen}
-use Rattle.step_world.specs.Tellings.{Telling}
-use Rattle.step_world.specs.Scaffold.Worlds.{Driving, EachAt, IsMessage, IsProcess, IsSeat, IsTold, Scene, Setting, awaited_of, live_in, record_of, request_in, seat_steps, sendings_so_far, steps_in, steps_with, ways_of}
+use Rattle.step_world.specs.Scaffold.Worlds.{Driving, IsMessage, IsProcess, IsSeat, IsTold, Scene, Setting, awaited_of, live_in, record_of, request_in, seat_steps, sendings_so_far, steps_in, steps_with, ways_of}
 use Rattle.step_world.specs.declared.processes.DiskProcess.{DiskProcess}
 use Rattle.step_world.specs.declared.seats.Seat.{Seat}
 use Rattle.step_world.proofs.Opened.{way_at}
@@ -75,6 +76,14 @@ opened_there [] (e ∷ processes) all part d found = absurd all
 opened_there (p ∷ states) [] all part d found = absurd all
 opened_there (p ∷ states) (e ∷ processes) all zero d found = (p, refl, sym (same_Some e d found) ∙ all.0)
 opened_there (p ∷ states) (e ∷ processes) all (suc part) d found = opened_there states processes all.1 part d found
+
+-- the processes of partitions that have just opened
+pub all_opened : (states : List State) (processes : List DiskProcess) (partitions : List Kept) → partitions ≡ map opened_with states → processes ≡ map new_process partitions → AreOpened states processes
+all_opened states processes partitions opened made = subst (AreOpened states) (sym (made ∙ ap (map new_process) opened)) (each states)
+  where
+    each : (states : List State) → AreOpened states (map new_process (map opened_with states))
+    each [] = tt
+    each (p ∷ states) = (refl, each states)
 
 -- nothing of a request has been sent
 no_steps : (s : Seat Asking) (o : Option Sending) → s.losses ≡ 0 → s.waits ≡ false → steps_with o s.losses s.waits ≡ []

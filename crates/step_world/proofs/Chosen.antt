@@ -7,12 +7,13 @@ use Rattle.outside.specs.Wire.{Answers}
 use Rattle.outside.specs.declared.wire.Passage.{Passage}
 use Rattle.record_laws.proofs.FiveFacts.{within_tables}
 use Rattle.driver_laws.specs.Scheduling.{Actor, OfPartition, OfSession}
+use Rattle.driver_laws.specs.Carrying.{Telling}
 use Rattle.step_world.specs.Choosing.{actor_seen, acts_at, has_mail, is_acting, mail_at, some_mail}
 use Rattle.requester_fs.specs.Asking.{Asking}
 use Rattle.step_world.specs.Scaffold.Seats.{turn_of}
 use Rattle.step_world.specs.declared.seats.Seat.{Seat}
 use Rattle.step_world.specs.Runs.{GoesOnFrom}
-use Rattle.step_world.specs.Tellings.{HasTold, Telling}
+use Rattle.step_world.specs.Tellings.{HasTold}
 use Rattle.step_world.specs.Scaffold.Worlds.{Driving, GoesOn, GoesOnWith, HasMail, Scene, Setting, record_of}
 use Rattle.step_world.specs.declared.choosing.Agent.{Agent}
 use Rattle.step_world.specs.declared.choosing.Agent.TheVariants.{Partition}

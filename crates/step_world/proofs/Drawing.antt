@@ -25,7 +25,7 @@ use Rattle.run_record.specs.declared.records.RunRecord.{RunRecord}
 use Rattle.record_laws.specs.SoFar.{LegalSoFar, way_of}
 use Rattle.record_laws.proofs.Counting.{stamps_count}
 use Rattle.record_laws.proofs.Drawing.{not_drawn}
-use Rattle.driver_laws.specs.Carrying.{IsCarried, passages_of}
+use Rattle.driver_laws.specs.Carrying.{IsCarried, Telling, passages_of}
 use Rattle.driver_laws.specs.Moves.{IsPosted, next_drawn, with_acts, with_drawn, with_log, with_way}
 use Rattle.driver_laws.specs.Scheduling.{Adds, OfSession, awaited, awaits}
 use Rattle.driver_laws.proofs.Adding.{adds_draw}
@@ -33,9 +33,9 @@ use Rattle.driver_laws.proofs.Carrying.{carried_drawn, passages_more}
 use Rattle.driver_laws.proofs.Moving.{drawn}
 use Rattle.driver_laws.proofs.Posting.{posted_drawn}
 use Rattle.driver_laws.proofs.Starting.{other_acts}
+use Rattle.requester_fs.specs.Beginnings.{EachAt}
 use Rattle.step_world.specs.Scaffold.Seats.{IsAnswered}
-use Rattle.step_world.specs.Tellings.{Telling}
-use Rattle.step_world.specs.Scaffold.Worlds.{Driving, EachAt, IsProcess, IsTold, Scene, Setting, Stands, WasPosted, awaited_of, has_some, next_actor, record_of, request_in, seat_steps, sendings_so_far, steps_in, steps_with, ways_of}
+use Rattle.step_world.specs.Scaffold.Worlds.{Driving, IsProcess, IsTold, Scene, Setting, Stands, WasPosted, awaited_of, has_some, next_actor, record_of, request_in, seat_steps, sendings_so_far, steps_in, steps_with, ways_of}
 use Rattle.step_world.specs.declared.seats.Seat.{Seat}
 use Rattle.step_world.proofs.Acting.{next_scene, others_stay, own_steps, session_acts}
 use Rattle.step_world.proofs.Answering.{above_in, above_open, fresh_stands, no_steps, unserved_so_far}

@@ -9,8 +9,9 @@ use Rattle.session_grammar.specs.Sessions.{MayCome}
 use Rattle.session_grammar.specs.UnderWay.{Sending}
 use Rattle.session_grammar.specs.declared.logs.Answer.TheVariants.{PathFailed}
 use Rattle.session_grammar.specs.declared.logs.LogEntry.{LogEntry}
+use Rattle.requester_fs.specs.Beginnings.{IsLater}
 use Rattle.step_world.specs.Scaffold.Seats.{IsOut, MayFail}
-use Rattle.step_world.specs.Scaffold.Worlds.{AreLater, IsLater, Scene, Stands}
+use Rattle.step_world.specs.Scaffold.Worlds.{AreLater, Scene, Stands}
 use Rattle.step_world.specs.declared.seats.Outgoing.{Outgoing}
 use Rattle.step_world.specs.declared.seats.Seat.{Seat}
 

@@ -34,10 +34,11 @@ use Rattle.driver_laws.proofs.Moving.{later, served as served_so_far, taken}
 use Rattle.driver_laws.proofs.Picking.{answer_fits, never_passed, served_before}
 use Rattle.driver_laws.proofs.Seats.{seat_same}
 use Rattle.driver_laws.proofs.Starting.{by_hand}
+use Rattle.requester_fs.specs.Beginnings.{EachAt}
+use Rattle.driver_laws.specs.Carrying.{Telling}
 use Rattle.step_world.specs.Scaffold.Mails.{CanReply, Handles}
 use Rattle.step_world.specs.Scaffold.Seats.{IsAnswered, turn_of}
-use Rattle.step_world.specs.Tellings.{Telling}
-use Rattle.step_world.specs.Scaffold.Worlds.{Driving, EachAt, IsMessage, IsProcess, Scene, Setting, next_actor, record_of, request_in, steps_in, steps_with, ways_of}
+use Rattle.step_world.specs.Scaffold.Worlds.{Driving, IsMessage, IsProcess, Scene, Setting, next_actor, record_of, request_in, steps_in, steps_with, ways_of}
 use Rattle.step_world.specs.declared.processes.DiskProcess.{DiskProcess}
 use Rattle.step_world.specs.declared.seats.Seat.{Seat}
 use Rattle.step_world.specs.declared.seats.Turn.TheVariants as turn

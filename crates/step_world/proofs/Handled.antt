@@ -11,7 +11,7 @@ use Rattle.partition_state.specs.declared.entries.Entry.{Entry}
 use Rattle.partition_state.proofs.Replays.{IsLegal-push, replay-push, step-new}
 use Rattle.plans_laws.specs.Spelled.{CameSpelled}
 use Rattle.driver_laws.specs.Moves.{IsNext, with_entry}
-use Rattle.step_world.specs.Tellings.{Telling}
+use Rattle.driver_laws.specs.Carrying.{Telling}
 use Rattle.step_world.specs.Scaffold.Worlds.{Driving, Scene, Setting, record_of}
 use Rattle.step_world.specs.declared.processes.DiskProcess.{DiskProcess}
 use Rattle.step_world.proofs.Marks.{no_mark}

@@ -17,7 +17,6 @@ pub mod Serving
 pub mod Handing
 pub mod Enabled
 pub mod Yielded
-pub mod OpenTables
 pub mod Over
 pub mod Beginning
 pub mod Turning

@@ -16,10 +16,10 @@ use Rattle.ending_laws.specs.Measures.{run_left}
 use Rattle.ending_laws.proofs.Acts.{by_hand_falls, ends_advance, serving_falls, taking_falls}
 use Rattle.ending_laws.proofs.Advancing.{few_above, redrives_advance}
 use Rattle.ending_laws.proofs.Measures.{runs_fall}
+use Rattle.driver_laws.specs.Carrying.{Telling}
 use Rattle.step_world.specs.Scaffold.Mails.{TakesOldest, copies_of}
 use Rattle.step_world.specs.Scaffold.Measures.{Spends, mail_left, seat_left}
 use Rattle.step_world.specs.Scaffold.Seats.{IsAnswered, seen}
-use Rattle.step_world.specs.Tellings.{Telling}
 use Rattle.step_world.specs.Scaffold.Worlds.{Driving, Scene, Setting, Stands, record_of, ways_of}
 use Rattle.step_world.specs.declared.processes.DiskProcess.{DiskProcess}
 use Rattle.step_world.specs.declared.processes.Sender.{Sender}

@@ -20,13 +20,14 @@ use Rattle.run_record.specs.declared.records.RunRecord.{RunRecord}
 use Rattle.record_laws.specs.SoFar.{way_of}
 use Rattle.driver_laws.specs.Moves.{IsPosted}
 use Rattle.record_laws.proofs.FiveFacts.{as_many}
+use Rattle.driver_laws.specs.Carrying.{Telling}
 use Rattle.step_world.specs.Scaffold.Seats.{HasRequest, IsOut, IsSending, turn_of, turn_to}
 use Rattle.step_world.specs.declared.processes.DiskProcess.{DiskProcess}
 use Rattle.step_world.specs.declared.seats.Outgoing.{Outgoing}
 use Rattle.step_world.specs.Scaffold.Worlds.{Driving, Scene, Setting, Stands, record_of, request_in, ways_of}
 use Rattle.step_world.specs.declared.seats.Seat.{Seat}
 use Rattle.step_world.specs.declared.seats.Turn.TheVariants.{Send, Take, ServeByHand, Wait}
-use Rattle.step_world.specs.Tellings.{HasTold, Telling}
+use Rattle.step_world.specs.Tellings.{HasTold}
 use Rattle.step_world.proofs.Places.{get_map, get_set_other}
 
 -- one place, at which a request is sent

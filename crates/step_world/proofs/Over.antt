@@ -26,13 +26,12 @@ use Rattle.run_record.specs.declared.records.Act.TheVariants.{Send, Take, ByHand
 use Rattle.run_record.specs.declared.records.RunRecord.{RunRecord}
 use Rattle.record_laws.specs.SoFar.{LegalSoFar, way_of}
 use Rattle.record_laws.proofs.Finishing.{finished-legal}
-use Rattle.driver_laws.specs.Carrying.{IsCarried, passages_of}
+use Rattle.driver_laws.specs.Carrying.{AllCarried, IsCarried, Telling, passages_of}
 use Rattle.driver_laws.specs.Scheduling.{AtEach, Awaited, IsOldest, OfPartition, OfSession, Posted, Scheduled, ScheduledSoFar, actors, awaited, awaits, copies, is_serve_of, is_served, is_some, is_unfinished, mail_after, mailed, may_go, nobody}
 use Rattle.driver_laws.proofs.Carrying.{carried_whole}
 use Rattle.driver_laws.proofs.Scheduling.{scheduled_whole}
-use Rattle.step_world.specs.Runs.{AllCarried, with_rows}
+use Rattle.step_world.specs.Runs.{with_rows}
 use Rattle.step_world.specs.Scaffold.Seats.{IsSending}
-use Rattle.step_world.specs.Tellings.{Telling}
 use Rattle.step_world.specs.Scaffold.Worlds.{Driving, Scene, Setting, Stands, awaited_of, has_some, live_in, record_of, request_in, seat_steps, sendings_so_far, steps_in, steps_with, ways_of}
 use Rattle.step_world.specs.declared.processes.DiskProcess.{DiskProcess}
 use Rattle.step_world.specs.declared.seats.Seat.{Seat}

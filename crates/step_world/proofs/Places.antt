@@ -1,10 +1,10 @@
 -- Lists in which one place is changed, and facts of each place.
-use Rattle.std.proofs.Common.{◌≡◌, ◌≢◌, ◌<◌, ℕ, zero, suc, List, [], ◌∷◌, ◌++◌, map, Some, Bool, true, false, refl, ap, sym, ◌∙◌, subst}
+use Rattle.std.proofs.Common.{◌≡◌, ◌≢◌, ℕ, zero, suc, List, [], ◌∷◌, ◌++◌, map, Some, Bool, true, false, refl, ap, sym, ◌∙◌, subst}
 use Rattle.std.specs.Prelude.{fold, slice_get, slice_set, ◌||◌, ◌⊎◌}
 use Rattle.std.proofs.Common.{inl, inr}
 use Rattle.std.proofs.lemmas.List.Folds.{list_any-append}
 use Rattle.std.specs.List.{AllZip, list_any}
-use Rattle.step_world.specs.Scaffold.Worlds.{EachAt}
+use Rattle.requester_fs.specs.Beginnings.{EachAt}
 
 pub same_or : (m n : ℕ) → (m ≡ n) ⊎ (m ≢ n)
 same_or zero zero = inl refl

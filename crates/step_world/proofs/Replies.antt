@@ -22,8 +22,8 @@ use Rattle.record_laws.specs.SoFar.{way_of}
 use Rattle.driver_laws.specs.Moves.{MayAnswer}
 use Rattle.driver_laws.proofs.Picking.{answer_fits, picked}
 use Rattle.driver_laws.proofs.Waiting.{reply_is_kept}
+use Rattle.driver_laws.specs.Carrying.{Telling}
 use Rattle.step_world.specs.Scaffold.Worlds.{Driving, Scene, Setting, live_in, record_of, request_in, steps_in, ways_of}
-use Rattle.step_world.specs.Tellings.{Telling}
 use Rattle.step_world.specs.declared.processes.DiskProcess.{DiskProcess}
 use Rattle.step_world.specs.declared.seats.Seat.{Seat}
 use Rattle.step_world.proofs.Marks.{none_at}

@@ -9,12 +9,13 @@ use Rattle.run_record.specs.Openings.{openings}
 use Rattle.session_grammar.specs.UnderWay.{Awaiting}
 use Rattle.session_grammar.specs.declared.logs.LogEntry.{LogEntry}
 use Rattle.driver_laws.specs.Scheduling.{Actor, OfPartition, OfSession, chosen_of}
+use Rattle.requester_fs.specs.Beginnings.{AreNew, IsLater}
+use Rattle.driver_laws.specs.Carrying.{Telling}
 use Rattle.step_world.specs.Choosing.{actor_seen, acts_at, mail_at}
 use Rattle.step_world.specs.Scaffold.Openings.{AreOpened}
-use Rattle.step_world.specs.Runs.{AreNew, AreSeated, CanAct, GoesOnFrom}
+use Rattle.step_world.specs.Runs.{AreSeated, CanAct, GoesOnFrom}
 use Rattle.step_world.specs.Scaffold.Seats.{seen}
-use Rattle.step_world.specs.Tellings.{Telling}
-use Rattle.step_world.specs.Scaffold.Worlds.{AreLater, Driving, IsLater, Scene, Setting, next_actor, scene}
+use Rattle.step_world.specs.Scaffold.Worlds.{AreLater, Driving, Scene, Setting, next_actor, scene}
 use Rattle.step_world.specs.declared.choosing.Agent.{Agent}
 use Rattle.step_world.specs.declared.seats.Seat.{Seat}
 use Rattle.step_world.specs.declared.worlds.World.{World}

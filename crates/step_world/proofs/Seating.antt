@@ -1,9 +1,9 @@
 -- The sessions of a script, one after the other.
-use Rattle.std.proofs.Common.{◌≡◌, ◌≤◌, ◌<◌, ◌-◌, ℕ, zero, suc, List, [], ◌∷◌, ◌++◌, length, get_or, Option, Some, None, Ok, Err, IfOk, Result, ◌∙◌, subst, arith}
+use Rattle.std.proofs.Common.{◌≡◌, ◌≤◌, ◌<◌, ◌-◌, ℕ, suc, List, [], ◌∷◌, length, get_or, Option, Some, None, Ok, Err, IfOk, Result, ◌∙◌, subst, arith}
 use Rattle.std.specs.Prelude.{slice_get, unwrap_or}
 use Rattle.std.specs.List.{AllByRecursion, AllZip}
 use Rattle.std.specs.Option.{IsSomeAnd, MatchOption}
-use Rattle.std.proofs.lemmas.Option.{same_Some, slice_get-get_or}
+use Rattle.std.proofs.lemmas.Option.{slice_get-get_or}
 use Rattle.std.proofs.lemmas.Slice.Zip.{AllZip-left}
 use Rattle.sql_base.specs.Scripts.{Lies}
 use Rattle.sql_base.specs.declared.faults.NoMemory.{NoMemory}
@@ -13,15 +13,7 @@ use Rattle.session_grammar.specs.declared.logs.LogEntry.{LogEntry}
 use Rattle.requester_fs.specs.Asking.{Asking}
 use Rattle.run_record.specs.Openings.{log_of}
 use Rattle.run_record.specs.declared.records.RunRecord.{RunRecord}
-use Rattle.step_world.specs.Runs.{AreNew}
-use Rattle.step_world.specs.Scaffold.Worlds.{EachAt}
-
--- one more at the end
-pub each_more : {A : Type 0} (P : ℕ → A → Type 0) (xs : List A) (x : A) → EachAt P xs → P (length xs) x → EachAt P (xs ++ x ∷ [])
-each_more P [] x each last zero y at = subst (P 0) (same_Some x y at) last
-each_more P [] x each last (suc at) y there = absurd (cc there)
-each_more P (z ∷ xs) x each last zero y at = each zero y at
-each_more P (z ∷ xs) x each last (suc at) y there = each_more (λ n a. P (suc n) a) xs x (λ n a h. each (suc n) a h) last at y there
+use Rattle.requester_fs.specs.Beginnings.{AreNew}
 
 -- sessions are single
 pub all_single : (xs : List Asking) → AllByRecursion (λ s. Unit {0}) xs

@@ -17,15 +17,16 @@ use Rattle.run_record.specs.declared.records.Act.{Act}
 use Rattle.run_record.specs.declared.records.Act.TheVariants.{Send}
 use Rattle.run_record.specs.declared.records.RunRecord.{RunRecord}
 use Rattle.record_laws.specs.SoFar.{LegalSoFar}
-use Rattle.driver_laws.specs.Carrying.{IsCarried, passages_of}
+use Rattle.driver_laws.specs.Carrying.{IsCarried, Telling, passages_of}
 use Rattle.driver_laws.specs.Moves.{IsPosted, with_acts}
 use Rattle.driver_laws.specs.Scheduling.{Adds, Lost, OfSession, Posted, Sent, Step, awaited, awaits, copies, mail_after}
 use Rattle.driver_laws.proofs.Adding.{adds_send}
 use Rattle.driver_laws.proofs.Carrying.{carried_sent, passages_more}
 use Rattle.driver_laws.proofs.Starting.{other_acts}
+use Rattle.requester_fs.specs.Beginnings.{EachAt}
 use Rattle.step_world.specs.Scaffold.Mails.{copies_of}
-use Rattle.step_world.specs.Tellings.{HasTold, Telling}
-use Rattle.step_world.specs.Scaffold.Worlds.{Driving, EachAt, IsMessage, IsProcess, IsTold, Scene, Setting, Stands, WasPosted, awaited_by, awaited_of, has_some, next_actor, record_of, request_in, seat_steps, sendings_so_far, steps_in, ways_of}
+use Rattle.step_world.specs.Tellings.{HasTold}
+use Rattle.step_world.specs.Scaffold.Worlds.{Driving, IsMessage, IsProcess, IsTold, Scene, Setting, Stands, WasPosted, awaited_by, awaited_of, has_some, next_actor, record_of, request_in, seat_steps, sendings_so_far, steps_in, ways_of}
 use Rattle.step_world.specs.declared.processes.DiskProcess.{DiskProcess}
 use Rattle.step_world.specs.declared.seats.Seat.{Seat}
 use Rattle.step_world.proofs.Acting.{next_scene, others_stay, own_steps, session_acts}

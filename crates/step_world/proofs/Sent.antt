@@ -21,15 +21,16 @@ use Rattle.run_record.specs.Openings.{log_of}
 use Rattle.run_record.specs.declared.records.Act.{Act}
 use Rattle.run_record.specs.declared.records.Act.TheVariants.{Send}
 use Rattle.record_laws.specs.SoFar.{LegalSoFar}
-use Rattle.driver_laws.specs.Carrying.{IsCarried, carried_after, passages_of}
+use Rattle.driver_laws.specs.Carrying.{IsCarried, Telling, carried_after, passages_of}
 use Rattle.driver_laws.specs.Moves.{with_acts, with_log, with_way}
 use Rattle.driver_laws.specs.Scheduling.{Adds, Lost, OfSession, Sent}
 use Rattle.driver_laws.proofs.Adding.{adds_failed}
 use Rattle.driver_laws.proofs.Carrying.{carried_taken}
 use Rattle.driver_laws.proofs.Moving.{taken}
+use Rattle.requester_fs.specs.Beginnings.{EachAt}
 use Rattle.step_world.specs.Scaffold.Seats.{IsAnswered, IsSent, sent_by, turn_of}
-use Rattle.step_world.specs.Tellings.{HasTold, Telling}
-use Rattle.step_world.specs.Scaffold.Worlds.{Driving, EachAt, IsProcess, IsTold, Scene, Setting, awaited_of, next_actor, record_of, request_in, seat_steps, sendings_so_far, steps_in, steps_with, ways_of}
+use Rattle.step_world.specs.Tellings.{HasTold}
+use Rattle.step_world.specs.Scaffold.Worlds.{Driving, IsProcess, IsTold, Scene, Setting, awaited_of, next_actor, record_of, request_in, seat_steps, sendings_so_far, steps_in, steps_with, ways_of}
 use Rattle.step_world.specs.declared.processes.DiskProcess.{DiskProcess}
 use Rattle.step_world.specs.declared.seats.Seat.{Seat}
 use Rattle.step_world.specs.declared.seats.Turn.TheVariants as turn

@@ -24,15 +24,15 @@ use Rattle.driver_laws.specs.Moves.{IsPosted, with_acts, with_entry}
 use Rattle.driver_laws.specs.Scheduling.{Adds, Awaited, OfPartition, Posted, awaits, is_serve_of, mail_after}
 use Rattle.driver_laws.proofs.Adding.{adds_serve_new, adds_serve_old}
 use Rattle.driver_laws.proofs.Moving.{later, served as served_so_far}
-use Rattle.driver_laws.specs.Carrying.{IsCarried, passages_of}
+use Rattle.driver_laws.specs.Carrying.{IsCarried, Telling, passages_of}
 use Rattle.driver_laws.proofs.Carrying.{passages_more}
 use Rattle.driver_laws.proofs.Picking.{served_before}
 use Rattle.driver_laws.proofs.Scheduling.{acts_more}
 use Rattle.driver_laws.proofs.Starting.{other_acts}
+use Rattle.requester_fs.specs.Beginnings.{EachAt}
 use Rattle.step_world.specs.Scaffold.Mails.{TakesOldest}
 use Rattle.step_world.specs.Scaffold.Seats.{is_open, served_at}
-use Rattle.step_world.specs.Tellings.{Telling}
-use Rattle.step_world.specs.Scaffold.Worlds.{Driving, EachAt, IsMessage, IsProcess, IsSeat, Scene, Setting, WasPosted, awaited_of, has_some, live_in, next_actor, record_of, request_in, seat_steps, sendings_so_far, steps_in, ways_of}
+use Rattle.step_world.specs.Scaffold.Worlds.{Driving, IsMessage, IsProcess, IsSeat, Scene, Setting, WasPosted, awaited_of, has_some, live_in, next_actor, record_of, request_in, seat_steps, sendings_so_far, steps_in, ways_of}
 use Rattle.step_world.specs.declared.processes.DiskProcess.{DiskProcess}
 use Rattle.step_world.specs.declared.processes.Sender.{Sender}
 use Rattle.step_world.specs.declared.seats.Seat.{Seat}

@@ -13,11 +13,10 @@ use Rattle.session_grammar.specs.UnderWay.{UnderWay}
 use Rattle.run_record.specs.declared.records.Act.{Act}
 use Rattle.run_record.specs.declared.records.Act.TheVariants.{Send, Take, ByHand, Draw, Serve}
 use Rattle.run_record.specs.declared.records.RunRecord.{RunRecord}
-use Rattle.driver_laws.specs.Carrying.{IsCarried, passages_of}
+use Rattle.driver_laws.specs.Carrying.{IsCarried, Telling, passages_of}
 use Rattle.driver_laws.specs.Moves.{IsPosted}
 use Rattle.driver_laws.specs.Scheduling.{Awaited, OfSession, Posted, actor_of, awaited, awaits, is_act_of, is_by, is_serve_of, mail_after, mailed}
 use Rattle.driver_laws.proofs.Carrying.{passages_more}
-use Rattle.step_world.specs.Tellings.{Telling}
 use Rattle.step_world.specs.Scaffold.Worlds.{IsMessage, IsProcess, IsSeat, Setting, WasPosted, awaited_of, sendings_so_far}
 use Rattle.step_world.specs.declared.processes.DiskProcess.{DiskProcess}
 use Rattle.step_world.specs.declared.seats.Seat.{Seat}

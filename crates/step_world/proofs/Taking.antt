@@ -17,14 +17,13 @@ use Rattle.session_grammar.specs.declared.logs.LogEntry.{LogEntry}
 use Rattle.session_grammar.specs.declared.logs.LogEntry.TheVariants.{Asked}
 use Rattle.run_record.specs.declared.records.Act.{Act}
 use Rattle.run_record.specs.declared.records.Act.TheVariants.{Take}
-use Rattle.driver_laws.specs.Carrying.{IsCarried, carried_after, passages_of}
+use Rattle.driver_laws.specs.Carrying.{IsCarried, Telling, carried_after, passages_of}
 use Rattle.driver_laws.specs.Scheduling.{Adds, OfSession}
 use Rattle.driver_laws.specs.Moves.{with_acts, with_log, with_way}
 use Rattle.driver_laws.proofs.Adding.{adds_take}
 use Rattle.driver_laws.proofs.Carrying.{carried_taken, passages_more}
 use Rattle.driver_laws.proofs.Moving.{taken}
 use Rattle.step_world.specs.Scaffold.Seats.{IsAnswered, turn_of}
-use Rattle.step_world.specs.Tellings.{Telling}
 use Rattle.step_world.specs.Scaffold.Worlds.{Driving, IsProcess, IsTold, Scene, Setting, next_actor, record_of, request_in, sendings_so_far, steps_in, steps_with, ways_of}
 use Rattle.step_world.specs.declared.processes.DiskProcess.{DiskProcess}
 use Rattle.step_world.specs.declared.seats.Seat.{Seat}

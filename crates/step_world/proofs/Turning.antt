@@ -8,10 +8,10 @@ use Rattle.requester_fs.specs.Asking.{Asking, next_at}
 use Rattle.session_grammar.specs.UnderWay.{Awaiting, Drawing, Sending, UnderWay}
 use Rattle.run_record.specs.declared.records.Act.{Act}
 use Rattle.driver_laws.specs.Scheduling.{Actor, OfPartition, OfSession, Posted, actors, awaited, chosen_of, is_serve_of, is_served, is_some, is_unfinished, mail_after, may_go}
+use Rattle.driver_laws.specs.Carrying.{Telling}
 use Rattle.step_world.specs.Choosing.{actor_seen, acts_at, has_mail, is_acting, mail_at, some_mail}
 use Rattle.step_world.specs.Runs.{CanAct}
 use Rattle.step_world.specs.Scaffold.Seats.{turn_of, turn_to}
-use Rattle.step_world.specs.Tellings.{Telling}
 use Rattle.step_world.specs.Scaffold.Worlds.{Driving, IsMessage, Scene, Setting, awaited_of, has_some, live_in, record_of, request_in, ways_of}
 use Rattle.step_world.specs.declared.choosing.Agent.{Agent}
 use Rattle.step_world.specs.declared.choosing.Agent.TheVariants.{Partition, Session}

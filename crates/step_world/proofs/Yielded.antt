@@ -3,7 +3,7 @@ use Rattle.std.proofs.Common.{◌≡◌, suc, List, [], ◌∷◌, ◌++◌, len
 use Rattle.std.proofs.lemmas.List.{length-map, map-append}
 use Rattle.step_world.specs.Runs.{AreSeated, new_seat}
 use Rattle.step_world.specs.declared.seats.Seat.{Seat}
-use Rattle.step_world.proofs.Seating.{each_more}
+use Rattle.requester_fs.proofs.Lists.{each_more}
 
 -- one more requester is seated
 pub seated_more : {Q : Type 0} (requesters : List Q) (seats : List (Seat Q)) (q : Q) → AreSeated requesters seats

@@ -1,31 +1,16 @@
 -- How a run begins, goes on and ends.
-use Rattle.std.specs.Prelude.{◌≡◌, ℕ, suc, ◌-◌, List, [], length, map, slice_get, Some, true, false}
+use Rattle.std.specs.Prelude.{◌≡◌, ℕ, suc, List, length, map, Some, true, false}
 use Rattle.sql_base.specs.Scripts.{Lies}
-use Rattle.sql_base.specs.declared.scripts.Script.{Script}
 use Rattle.partition_core.specs.Kept.{rows_in}
-use Rattle.requester_fs.specs.Asking.{Asking, IsAsking, places_of}
 use Rattle.run_record.specs.declared.records.RunRecord.{RunRecord}
-use Rattle.driver_laws.specs.Carrying.{Carried}
+use Rattle.driver_laws.specs.Carrying.{Telling}
 use Rattle.driver_laws.specs.Scheduling.{Actor}
+use Rattle.requester_fs.specs.Beginnings.{EachAt}
 use Rattle.step_world.specs.Choosing.{acts_at, mail_at}
-use Rattle.step_world.specs.Tellings.{Telling}
-use Rattle.step_world.specs.Scaffold.Worlds.{Driving, EachAt, Scene, Setting, next_actor, record_of}
+use Rattle.step_world.specs.Scaffold.Worlds.{Driving, Scene, Setting, next_actor, record_of}
 use Rattle.step_world.specs.declared.choosing.Agent.{Agent}
 use Rattle.step_world.specs.declared.choosing.Agent.TheVariants.{Session, Partition}
 use Rattle.step_world.specs.declared.seats.Seat.{Seat}
-
--- a new requester of the session with this number
-pub record IsNew (script : Script) (number : ℕ) (a : Asking) : Type 0 where
-  pub script_is : a.script ≡ script
-  pub number_is : a.number ≡ number
-  pub log : a.log ≡ []
-  pub asking : IsAsking a
-  pub one : places_of a.way ≡ 1
-
--- one for each session, in order
-pub record AreNew {Q : Type 0} (asking : Q → Asking) (script : Script) (requesters : List Q) : Type 0 where
-  pub each : EachAt (λ at q. IsNew script (suc at) (asking q)) requesters
-  pub many : length requesters ≡ length script.sessions
 
 -- their seats, with nothing done yet
 abbrev pub new_seat : {Q : Type 0} → ℕ → Q → Seat Q
@@ -47,7 +32,3 @@ GoesOnFrom actor before a after b = (setting : Setting) → Driving setting befo
 -- the record with the rows that are left
 abbrev pub with_rows : Scene → RunRecord
 with_rows w = record (record_of w) { rows = map (λ d. rows_in d.partition) w.processes }
-
--- the wire of each session told what its log lost
-abbrev pub AllCarried : List Telling → RunRecord → Type 0
-AllCarried told kept = (n : ℕ) (t : Telling) → Lies 1 (length kept.logs) n → slice_get told (n - 1) ≡ Some t → Carried kept n t.first t.round

@@ -2,11 +2,7 @@
 use Rattle.std.specs.Prelude.{◌≡◌, ℕ, List, slice_get, slice_set, Some}
 use Rattle.outside.specs.Wire.{Answers}
 use Rattle.outside.specs.declared.wire.Passage.{Passage}
-
--- the answers that a wire tells from now on: those of `first`, and then those of `round` over and over
-pub record Telling : Type 0 where
-  pub first : List Passage
-  pub round : List Passage
+use Rattle.driver_laws.specs.Carrying.{Telling}
 
 -- one wire has told an answer, and all others stay as they are
 pub record HasTold (at : ℕ) (answer : Passage) (old new : List Telling) : Type 0 where

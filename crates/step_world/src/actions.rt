@@ -3,7 +3,7 @@ ghost use Rattle.std.specs.Prelude.{◌≡◌, ◌≤◌, ◌<◌, ◌+◌, ◌^
 ghost use Rattle.commit_journal.specs.Journal.{drawn_for, last_stamp};
 ghost use Rattle.std.specs.List.{AllByRecursion};
 ghost use Rattle.driver_laws.specs.Scheduling.{OfPartition, OfSession};
-ghost use Rattle.step_world.specs.Tellings.{Telling};
+ghost use Rattle.driver_laws.specs.Carrying.{Telling};
 ghost use Rattle.step_world.specs.declared.seats.Turn.{Turn};
 ghost use Rattle.step_world.specs.Scaffold.Measures.{LeavesLess};
 ghost use Rattle.step_world.specs.Scaffold.Worlds.{AreLater, Driving, GoesOn, GoesOnWith, HasMail, Setting, TurnAt, scene};

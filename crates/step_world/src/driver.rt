@@ -5,20 +5,23 @@ ghost use Rattle.outside.specs.Wire.{Answers};
 ghost use Rattle.sql_base.specs.Scripts.{IsScript};
 ghost use Rattle.run_record.specs.Legal.{Legal};
 ghost use Rattle.driver_laws.specs.Scheduling.{OfSession, Scheduled};
+ghost use Rattle.requester_fs.specs.Beginnings.{AreNew};
+ghost use Rattle.driver_laws.specs.Carrying.{AllCarried, Telling};
 ghost use Rattle.step_world.specs.Choosing.{actor_seen};
-ghost use Rattle.step_world.specs.Runs.{AllCarried, AreNew, AreSeated, CanAct, GoesOnFrom};
-ghost use Rattle.step_world.specs.Tellings.{HasTold, Telling};
+ghost use Rattle.step_world.specs.Runs.{AreSeated, CanAct, GoesOnFrom};
+ghost use Rattle.step_world.specs.Tellings.{HasTold};
 ghost use Rattle.step_world.specs.declared.choosing.Agent.{Agent};
 ghost use Rattle.step_world.specs.Scaffold.Measures.{LeavesLess};
 ghost use Rattle.step_world.specs.Scaffold.Worlds.{AreLater, Driving, Setting, scene};
 
 use crate::choosing::Agent;
 use crate::ending::record;
-use crate::openings::open;
+use crate::processes::processes_of;
 use crate::seats::{Seat, Turn};
 use crate::worlds::World;
 use commit_journal::Journal;
 use outside::{Passage, Wire};
+use partition_openings::open;
 use requester_fs::Requester;
 use run_record::RunRecord;
 use sql_base::{List, NoMemory, Script};
@@ -45,7 +48,7 @@ pub fn drive_with<Q: Requester>(
     let mut wires = wires;
     let mut world = World {
         seats: take_seats(alloc, requesters)?,
-        processes: open(alloc, script)?,
+        processes: processes_of(alloc, open(alloc, script)?)?,
         journal: Journal::new(alloc),
         acts: List::new(alloc),
     };

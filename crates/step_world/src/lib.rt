@@ -5,7 +5,6 @@ mod actions;
 mod choosing;
 mod driver;
 mod ending;
-mod openings;
 mod paths;
 mod processes;
 mod seats;

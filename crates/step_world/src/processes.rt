@@ -1,8 +1,9 @@
 //! The process of a partition, which serves what lies in its mail.
-ghost use Rattle.std.specs.Prelude.{◌≡◌, ◌≢◌, ◌<◌, ◌++◌, ◌∷◌, [], Some, OnOk, IfOk};
+ghost use Rattle.std.specs.Prelude.{◌≡◌, ◌≢◌, ◌<◌, ◌++◌, ◌∷◌, [], map, Some, OnOk, IfOk};
 ghost use Rattle.sql_base.specs.Scripts.{Lies};
 ghost use Rattle.dp_messages.specs.Spelling.{IsEnvelope, request_bytes};
 ghost use Rattle.partition_core.specs.Kept.{opener_in};
+ghost use Rattle.step_world.specs.Scaffold.Openings.{new_process};
 ghost use Rattle.step_world.specs.Scaffold.Mails.{CanReply, Handles, TakesOldest, copies_of};
 
 use dp_messages::{Envelope, Message, Reply, Request, decode_request, encode_request};
@@ -24,6 +25,20 @@ pub struct DiskProcess {
 pub struct Sender {
     pub opener: u32,
     pub sync: u64,
+}
+
+/// The process of each partition, with nothing in its mail.
+pub fn processes_of(alloc: Global, partitions: Vec<Partition>) -> Result<Vec<DiskProcess>, NoMemory>
+    ensures { IfOk result (λ processes. processes.items ≡ map new_process partitions.items) }
+{
+    let mut processes = Vec::new(alloc);
+    for partition in partitions {
+        processes.push(DiskProcess {
+            partition,
+            mail: LinkedList::new(alloc),
+        })?;
+    }
+    Ok(processes)
 }
 
 impl DiskProcess {

@@ -5,11 +5,12 @@ ghost use Rattle.session_grammar.specs.Follows.{in_line};
 ghost use Rattle.run_record.specs.Legal.{Legal};
 ghost use Rattle.run_record.specs.Openings.{log_of};
 ghost use Rattle.driver_laws.specs.Scheduling.{Scheduled};
-ghost use Rattle.step_world.specs.Runs.{AllCarried, AreNew};
+ghost use Rattle.requester_fs.specs.Beginnings.{AreNew};
+ghost use Rattle.driver_laws.specs.Carrying.{AllCarried};
 
 use crate::driver::drive_with;
 use outside::Wire;
-use requester_fs::Session;
+use requester_fs::sessions_of;
 use run_record::RunRecord;
 use sql_base::{NoMemory, Script};
 use std::alloc::Global;
@@ -31,16 +32,4 @@ pub fn drive(
 {
     let sessions = sessions_of(alloc, script)?;
     drive_with(alloc, script, sessions, schedule, wires)
-}
-
-/// The sessions of the script, in order, at their beginnings.
-fn sessions_of<'a>(alloc: Global, script: &'a Script) -> Result<Vec<Session<'a>>, NoMemory>
-    requires { IsScript script.now }
-    ensures { IfOk result (λ sessions. AreNew (λ s. s) script.now sessions.items) }
-{
-    let mut sessions = Vec::new(alloc);
-    for at in 0..script.sessions.items().len() {
-        sessions.push(Session::new(alloc, script, at as u32 + 1)?)?;
-    }
-    Ok(sessions)
 }

@@ -4,7 +4,7 @@ use Rattle.sql_base.specs.declared.scripts.Script.{Script}
 use Rattle.requester_fs.specs.Asking.{Asking}
 use Rattle.ending_laws.specs.Keys.{above_in, keys_count}
 use Rattle.ending_laws.specs.Measures.{run_left, session_left}
-use Rattle.step_world.specs.Tellings.{Telling}
+use Rattle.driver_laws.specs.Carrying.{Telling}
 use Rattle.step_world.specs.Scaffold.Worlds.{Driving, Setting, scene}
 use Rattle.step_world.specs.declared.processes.DiskProcess.{DiskProcess}
 use Rattle.step_world.specs.declared.seats.Seat.{Seat}

@@ -13,17 +13,18 @@ use Rattle.session_grammar.specs.Rows.{is_end}
 use Rattle.session_grammar.specs.UnderWay.{Awaiting, Drawing, Sending, UnderWay}
 use Rattle.session_grammar.specs.declared.logs.LogEntry.{LogEntry}
 use Rattle.requester_fs.specs.Asking.{Asking, IsAsking, places_of}
+use Rattle.requester_fs.specs.Beginnings.{EachAt, IsLater}
 use Rattle.run_record.specs.Openings.{openings}
 use Rattle.run_record.specs.declared.records.Act.{Act}
 use Rattle.run_record.specs.declared.records.Act.TheVariants.{Serve}
 use Rattle.plans_laws.specs.Spelled.{CameSpelled}
 use Rattle.run_record.specs.declared.records.RunRecord.{RunRecord}
 use Rattle.record_laws.specs.SoFar.{LegalSoFar}
-use Rattle.driver_laws.specs.Carrying.{IsCarried, passages_of}
+use Rattle.driver_laws.specs.Carrying.{IsCarried, Telling, passages_of}
 use Rattle.driver_laws.specs.Moves.{IsPosted}
 use Rattle.driver_laws.specs.Scheduling.{Actor, Awaited, Lost, OfSession, Posted, ScheduledSoFar, Sent, Step, actors, awaited, chosen_of, is_serve_of, mail_after}
 use Rattle.step_world.specs.Scaffold.Seats.{seen, turn_of}
-use Rattle.step_world.specs.Tellings.{HasTold, Telling}
+use Rattle.step_world.specs.Tellings.{HasTold}
 use Rattle.step_world.specs.declared.processes.DiskProcess.{DiskProcess}
 use Rattle.step_world.specs.declared.seats.Seat.{Seat}
 use Rattle.step_world.specs.declared.seats.Turn.{Turn}
@@ -138,9 +139,6 @@ pub record IsProcess (script : Script) (kept : RunRecord) (ways : List UnderWay)
   pub came : CameSpelled d.partition.history
   pub mail : AllZip (IsMessage (length script.sessions) kept ways part) (mail_after part kept.acts) d.mail
 
-abbrev pub EachAt : {A : Type 0} → (ℕ → A → Type 0) → List A → Type 0
-EachAt {A = A} P xs = (at : ℕ) (x : A) → slice_get xs at ≡ Some x → P at x
-
 -- what was served was posted
 abbrev pub WasPosted : ℕ → RunRecord → List UnderWay → Act → Type 0
 WasPosted sessions kept ways (Serve part opener sync) = (request : Request) × Lies 1 sessions opener × IsPosted kept ways opener part sync request
@@ -171,11 +169,7 @@ abbrev pub GoesOnWith : ℕ → Passage → Scene → Scene → Type 0
 GoesOnWith at passage a b =
     (setting : Setting) (before after : List Telling) → HasTold at passage before after → Driving setting before a → next_actor setting a ≡ Some (OfSession (suc at)) → Driving setting after b
 
--- the same requesters, further on: what each allows it allowed before
-pub record IsLater {Q : Type 0} (single : Q → Type 0) (allows : Q → List LogEntry → Type 0) (a b : Q) : Type 0 where
-  pub single_still : single a → single b
-  pub allowed : (log : List LogEntry) → allows b log → allows a log
-
+-- the same requesters, further on
 abbrev pub AreLater : {Q : Type 0} → (Q → Type 0) → (Q → List LogEntry → Type 0) → List (Seat Q) → List (Seat Q) → Type 0
 AreLater single allows before after = AllZip (λ a b. IsLater single allows a.requester b.requester) before after
 

@@ -4,6 +4,7 @@ use Rattle.run_record.specs.Legal.{Legal}
 use Rattle.driver_laws.specs.Scheduling.{Scheduled}
 use Rattle.step_world.specs.Runs.{with_rows}
 use Rattle.step_world.specs.Scaffold.Worlds.{scene}
+use Rattle.step_world.proofs.Beginning.{all_opened}
 use Rattle.step_world.proofs.Over.{all_carried, all_seats, is_legal, is_scheduled}
 use Rattle.step_world.proofs.Running.{all_ended, allowed_first, as_many_told, enough_told, if_ok, many_seats, may_act, nobody_may, of_kept, run_begins, run_goes_on}
 use Rattle.step_world.proofs.driver.drive_with.Goals as goal
@@ -21,7 +22,7 @@ start_from-requires g c =
 pub loop-world-init : goal.loop-world-init
 loop-world-init g c =
     run_begins g.Q.Requester.asking g.Q.Requester.single g.Q.Requester.allows _ c.args.requesters.items _ _ _ c.requires.script c.requires.requesters c.requires.single
-    (subst (λ n. length c.args.requesters.items ≤ n) (sym (as_many_told _ c.args.wires.items c.start_from.new.wires.items c.start_from.ensures.told)) c.requires.wires) c.in_ok-take_seats.ensures c.in_ok-open.ensures c.new.ensures c.new-2.ensures c.start_from.ensures.told
+    (subst (λ n. length c.args.requesters.items ≤ n) (sym (as_many_told _ c.args.wires.items c.start_from.new.wires.items c.start_from.ensures.told)) c.requires.wires) c.in_ok-take_seats.ensures (all_opened _ _ _ c.in_ok-open.ensures c.in_ok-processes_of.ensures) c.new.ensures c.new-2.ensures c.start_from.ensures.told
 
 pub act-requires-clause-driving : goal.act-requires-clause-driving
 act-requires-clause-driving g c = (_, c.loop-world.invariant.driving)

@@ -1,6 +1,6 @@
 use Rattle.std.proofs.Common.{length, map}
+use Rattle.driver_laws.specs.Carrying.{Telling}
 use Rattle.step_world.specs.Scaffold.Measures.{actions_left}
-use Rattle.step_world.specs.Tellings.{Telling}
 use Rattle.step_world.proofs.Running.{IsRun}
 use Rattle.step_world.proofs.driver.drive_with.Given as goal
 

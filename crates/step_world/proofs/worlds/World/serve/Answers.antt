@@ -6,8 +6,8 @@ use Rattle.std.proofs.lemmas.Option.{slice_get_within}
 use Rattle.sql_base.specs.Scripts.{Lies}
 use Rattle.requester_fs.specs.Asking.{Asking}
 use Rattle.run_record.specs.declared.records.Act.TheVariants.{Serve}
+use Rattle.driver_laws.specs.Carrying.{Telling}
 use Rattle.step_world.specs.Scaffold.Seats.{seen, served_at}
-use Rattle.step_world.specs.Tellings.{Telling}
 use Rattle.step_world.specs.Scaffold.Worlds.{Driving, Scene, Setting, scene}
 use Rattle.step_world.specs.declared.processes.DiskProcess.{DiskProcess}
 use Rattle.step_world.specs.declared.seats.Seat.{Seat}

@@ -1,9 +1,9 @@
 -- The partitions of the tables as they open, one after the other.
-use Rattle.std.proofs.Common.{◌≡◌, ◌<◌, ◌+◌, ℕ, List, [], ◌∷◌, ◌++◌, length, map, take, get_or, Bool, true, false, cond, append_assoc, ap, sym, ◌∙◌, subst, arith}
+use Rattle.std.proofs.Common.{◌≡◌, ◌<◌, ◌+◌, ℕ, List, [], ◌∷◌, ◌++◌, length, map, take, get_or, Bool, true, false, cond, append_assoc, ap, sym, ◌∙◌, arith}
 use Rattle.std.specs.Prelude.{◌==◌}
 use Rattle.std.specs.List.{range_with_len}
 use Rattle.std.proofs.lemmas.Bool.Decides.{nat_tests}
-use Rattle.std.proofs.lemmas.List.{append-nil, length-take-le, take_more}
+use Rattle.std.proofs.lemmas.List.{append-nil, length-take-le, map-append, take_more}
 use Rattle.std.proofs.lemmas.List.Elements.{filter_more}
 use Rattle.std.proofs.lemmas.List.FromFn.{length-map-range_with_len, map-range_with_len_more}
 use Rattle.sql_base.specs.Rows.{AreRecords, IsRow, key_of}
@@ -14,8 +14,8 @@ use Rattle.partition_map.specs.Map.{part_of}
 use Rattle.partition_state.specs.State.{State, opening}
 use Rattle.run_record.specs.Openings.{openings_from, rows_in_part}
 use Rattle.serial_laws.proofs.Opened.{rise-rows, sound-opening}
-use Rattle.step_world.specs.Scaffold.Openings.{AreOpened, is_opened, table_openings}
-use Rattle.step_world.specs.declared.processes.DiskProcess.{DiskProcess}
+use Rattle.partition_core.specs.Kept.{Kept, opened_with}
+use Rattle.partition_openings.specs.Openings.{table_openings}
 use Rattle.sql_base.proofs.ListFacts.{all-filter}
 
 -- the records of a table that lie in one partition are records of it
@@ -24,26 +24,19 @@ part_records limits table place rows are =
     let sound = sound-opening table place limits rows are in
     (all-filter (IsRow table) (λ row. part_of table (key_of table row) == place) rows are.0, rise-rows table (rows_in_part table place rows) sound.keeps.cells.rise)
 
--- one process behind the others
-one_behind : (states : List State) (processes : List DiskProcess) (p : State) (d : DiskProcess) → AreOpened states processes → is_opened p d → AreOpened (states ++ p ∷ []) (processes ++ d ∷ [])
-one_behind [] [] p d are is = (is, tt)
-one_behind [] (e ∷ processes) p d are is = absurd are
-one_behind (q ∷ states) [] p d are is = absurd are
-one_behind (q ∷ states) (e ∷ processes) p d are is = (are.0, one_behind states processes p d are.1 is)
-
 -- the first partitions of a table
 abbrev pub first_openings : Limits → TableDef → List (List Value) → ℕ → List State
 first_openings limits table rows n = map (λ place. opening table place limits (rows_in_part table place rows)) (range_with_len 0 n)
 
 -- one partition more
-pub part_more : (limits : Limits) (table : TableDef) (rows : List (List Value)) (n : ℕ) (states : List State) (processes : List DiskProcess) (d : DiskProcess)
-    → AreOpened (states ++ first_openings limits table rows n) processes → is_opened (opening table n limits (rows_in_part table n rows)) d → AreOpened (states ++ first_openings limits table rows (n + 1)) (processes ++ d ∷ [])
-part_more limits table rows n states processes d are is =
+pub part_more : (limits : Limits) (table : TableDef) (rows : List (List Value)) (n : ℕ) (before : List Kept)
+    → (before ++ map opened_with (first_openings limits table rows n)) ++ opened_with (opening table n limits (rows_in_part table n rows)) ∷ [] ≡ before ++ map opened_with (first_openings limits table rows (n + 1))
+part_more limits table rows n before =
     let p : State = opening table n limits (rows_in_part table n rows) in
     let count : 0 + n ≡ n = omega arith in
     let more = map-range_with_len_more (λ place. opening table place limits (rows_in_part table place rows)) 0 n n count in
-    let front : states ++ first_openings limits table rows (n + 1) ≡ (states ++ first_openings limits table rows n) ++ p ∷ [] = ap (λ ps. states ++ ps) more ∙ sym (append_assoc states (first_openings limits table rows n) (p ∷ [])) in
-    subst (λ ps. AreOpened ps (processes ++ d ∷ [])) (sym front) (one_behind (states ++ first_openings limits table rows n) processes p d are is)
+    let mapped : map opened_with (first_openings limits table rows (n + 1)) ≡ map opened_with (first_openings limits table rows n) ++ opened_with p ∷ [] = ap (map opened_with) more ∙ map-append opened_with (first_openings limits table rows n) (p ∷ []) in
+    append_assoc before (map opened_with (first_openings limits table rows n)) (opened_with p ∷ []) ∙ ap (λ ks. before ++ ks) (sym mapped)
 
 -- one table behind the others
 table_behind : (limits : Limits) (tables : List TableDef) (loads : List (List (List Value))) (table : TableDef) (rows : List (List Value)) → length tables ≡ length loads

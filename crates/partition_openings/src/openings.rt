@@ -1,32 +1,30 @@
 //! The partitions of all tables as they begin.
-ghost use Rattle.std.specs.Prelude.{◌≡◌, ◌≤◌, ◌++◌, List, length, IfOk, OnOk};
+ghost use Rattle.std.specs.Prelude.{◌≡◌, ◌≤◌, ◌++◌, length, map, IfOk, OnOk};
 ghost use Rattle.std.specs.List.{AllByRecursion};
 ghost use Rattle.sql_base.specs.Rows.{AreRecords, IsRow, key_of};
 ghost use Rattle.sql_base.specs.Scripts.{AreLimits, IsScript};
 ghost use Rattle.sql_base.specs.Tables.{IsTable};
-ghost use Rattle.partition_state.specs.State.{State};
+ghost use Rattle.partition_core.specs.Kept.{opened_with};
 ghost use Rattle.one_thread.specs.One.{load_rows};
 ghost use Rattle.run_record.specs.Openings.{openings, rows_in_part};
-ghost use Rattle.step_world.specs.Scaffold.Openings.{AreOpened, table_openings};
+ghost use Rattle.partition_openings.specs.Openings.{table_openings};
 
-use crate::processes::DiskProcess;
 use partition_core::Partition;
 use partition_cuts::part_of;
 use sql_base::{Limits, List, Load, NoMemory, Row, Script, TableDef, row_key};
 use std::alloc::Global;
-use std::collections::LinkedList;
 
-/// The partitions of all tables with the LOAD rows of the script, and nothing in their mails.
-pub fn open(alloc: Global, script: &Script) -> Result<Vec<DiskProcess>, NoMemory>
+/// The partitions of all tables, in their order, with the LOAD rows of the script. Nothing has been served by them yet.
+pub fn open(alloc: Global, script: &Script) -> Result<Vec<Partition>, NoMemory>
     requires { IsScript script.now }
-    ensures { IfOk result (λ processes. AreOpened (openings script.now) processes.items) }
+    ensures { IfOk result (λ partitions. partitions.items ≡ map opened_with (openings script.now)) }
 {
-    let mut processes = Vec::new(alloc);
+    let mut partitions = Vec::new(alloc);
     for (place, table) in script.tables.items().iter().enumerate() {
         let rows = loaded_rows(alloc, script.loads.items(), place)?;
-        open_table(alloc, table, script.limits, rows.items(), &mut processes)?;
+        open_table(alloc, table, script.limits, rows.items(), &mut partitions)?;
     }
-    Ok(processes)
+    Ok(partitions)
 }
 
 /// Adds the partitions of one table.
@@ -35,21 +33,18 @@ fn open_table(
     table: &TableDef,
     limits: Limits,
     rows: &[Row],
-    processes: &mut Vec<DiskProcess>,
+    partitions: &mut Vec<Partition>,
 ) -> Result<(), NoMemory>
     requires table { IsTable table.now }
     requires firsts { length table.now.firsts ≤ 15 }
     requires limits { AreLimits limits }
     requires rows { AreRecords table.now rows.now }
-    ensures { OnOk result ((states : List State) → AreOpened states processes.old.items → AreOpened (states ++ table_openings limits table.now rows.now) processes.new.items) }
+    ensures { OnOk result (partitions.new.items ≡ partitions.old.items ++ map opened_with (table_openings limits table.now rows.now)) }
 {
     for place in 0..table.firsts.items().len() as u32 + 1 {
         let own = rows_at(alloc, table, place, rows)?;
         let partition = Partition::new(alloc, table, place, limits, own.items())?;
-        processes.push(DiskProcess {
-            partition,
-            mail: LinkedList::new(alloc),
-        })?;
+        partitions.push(partition)?;
     }
     Ok(())
 }

@@ -1,10 +1,12 @@
-use Rattle.std.proofs.Common.{rules, ◌≡◌, ◌<◌, ◌++◌, length, get_or, refl, ap, sym, ◌∙◌, subst}
+use Rattle.std.proofs.Common.{rules, ◌≡◌, ◌<◌, ◌++◌, length, map, get_or, refl, ap, sym, ◌∙◌, subst}
+use Rattle.std.proofs.lemmas.List.{map-append}
 use Rattle.std.proofs.lemmas.Option.{slice_get_read}
 use Rattle.sql_base.specs.Rows.{AreRecords}
 use Rattle.one_thread.specs.One.{load_rows}
-use Rattle.step_world.specs.Scaffold.Openings.{AreOpened, table_openings}
-use Rattle.step_world.proofs.OpenTables.{openings_of, table_more}
-use Rattle.step_world.proofs.openings.open.Goals as goal
+use Rattle.partition_core.specs.Kept.{opened_with}
+use Rattle.partition_openings.specs.Openings.{table_openings}
+use Rattle.partition_openings.proofs.OpenTables.{openings_of, table_more}
+use Rattle.partition_openings.proofs.openings.open.Goals as goal
 use Rattle.one_thread.proofs.Loaded.{load-records}
 
 pub open_table-requires-clause-rows : goal.open_table-requires-clause-rows
@@ -27,6 +29,5 @@ loop-place-preserved c =
     let here : table ≡ get_or script.tables place table = search rules in
     let rows : c.items-in-loop-place.result.now ≡ load_rows script.loads place = c.items-in-loop-place.ensures ∙ c.in_ok-rows.ensures ∙ ap (λ ls. load_rows ls place) c.items.ensures in
     let before = openings_of script.limits script.tables loads place in
-    let opened = c.in_ok-open_table.ensures before c.loop-place.invariant in
-    subst (λ states. AreOpened states c.open_table.new.processes.items) (table_more script.limits script.tables loads place table lt here)
-    (subst (λ rs. AreOpened (before ++ table_openings script.limits table rs) c.open_table.new.processes.items) rows opened)
+    c.in_ok-open_table.ensures ∙ (λ i. c.loop-place.invariant i ++ map opened_with (table_openings script.limits table (rows i))) ∙ sym (map-append opened_with before (table_openings script.limits table (loads place)))
+    ∙ ap (map opened_with) (table_more script.limits script.tables loads place table lt here)

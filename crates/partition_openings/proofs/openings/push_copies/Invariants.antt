@@ -1,5 +1,5 @@
 use Rattle.std.proofs.Common.{◌≡◌, ◌++◌, take}
-use Rattle.step_world.proofs.openings.push_copies.Given as goal
+use Rattle.partition_openings.proofs.openings.push_copies.Given as goal
 
 -- the copies so far
 abbrev pub invariant-loop-row : goal.invariant-loop-row

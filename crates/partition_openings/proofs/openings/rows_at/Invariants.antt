@@ -1,6 +1,6 @@
 use Rattle.std.proofs.Common.{◌≡◌, take}
 use Rattle.run_record.specs.Openings.{rows_in_part}
-use Rattle.step_world.proofs.openings.rows_at.Given as goal
+use Rattle.partition_openings.proofs.openings.rows_at.Given as goal
 
 -- the rows of the partition so far
 abbrev pub invariant-loop-row : goal.invariant-loop-row

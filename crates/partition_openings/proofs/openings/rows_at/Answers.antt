@@ -3,9 +3,9 @@ use Rattle.std.proofs.lemmas.Option.{slice_get_read}
 use Rattle.sql_base.specs.Rows.{IsRow}
 use Rattle.partition_map.specs.Map.{part_of}
 use Rattle.ranges_laws.proofs.Ranges.{keys_are_keys}
-use Rattle.step_world.proofs.OpenTables.{row_elsewhere, row_here}
-use Rattle.step_world.proofs.openings.rows_at.Goals as goal
-use Rattle.step_world.proofs.openings.rows_at.Goals.{then-part_of-place+in_ok-copy_of+in_ok-push, else-part_of-place}
+use Rattle.partition_openings.proofs.OpenTables.{row_elsewhere, row_here}
+use Rattle.partition_openings.proofs.openings.rows_at.Goals as goal
+use Rattle.partition_openings.proofs.openings.rows_at.Goals.{then-part_of-place+in_ok-copy_of+in_ok-push, else-part_of-place}
 use Rattle.sql_base.proofs.ListFacts.{all_at}
 
 pub part_of-requires-clause-long : goal.part_of-requires-clause-long

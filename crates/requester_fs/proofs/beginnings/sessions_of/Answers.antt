@@ -2,10 +2,9 @@
 use Rattle.std.proofs.Common.{◌≡◌, ◌+◌, ◌∙◌, List, suc, length, ap, arith, sym, subst}
 use Rattle.std.proofs.lemmas.List.{length_push}
 use Rattle.requester_fs.specs.Asking.{Asking}
-use Rattle.step_world.specs.Runs.{IsNew}
-use Rattle.step_world.specs.Scaffold.Worlds.{EachAt}
-use Rattle.step_world.proofs.Seating.{each_more}
-use Rattle.step_world.proofs.sessions.sessions_of.Goals as goal
+use Rattle.requester_fs.specs.Beginnings.{EachAt, IsNew}
+use Rattle.requester_fs.proofs.Lists.{each_more}
+use Rattle.requester_fs.proofs.beginnings.sessions_of.Goals as goal
 
 pub loop-at-preserved : goal.loop-at-preserved
 loop-at-preserved c =
