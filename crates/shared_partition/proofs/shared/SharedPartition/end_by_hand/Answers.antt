@@ -1,0 +1,25 @@
+use Rattle.std.proofs.Common.{ap, subst, ◌∙◌}
+use Rattle.partition_core.specs.Kept.{Kept}
+use Rattle.shared_partition.specs.Spelled.{Adds}
+use Rattle.shared_partition.proofs.Turns.{Taken, answered_turn, answer_goes_on}
+use Rattle.shared_partition.proofs.shared.SharedPartition.end_by_hand.Goals as goal
+
+pub returns-clause-served : goal.returns-clause-served
+returns-clause-served g c =
+    let k = c.turn-held.result.value in
+    let k' = c.serve-served.new.self in
+    let turn : Taken c.args.pass.now c.turn-held.new.pass c.give.new.pass k k' = record {
+      losses = c.turn-held.new.pass.losses;
+      takes = c.turn-held.ensures.taken;
+      begins = c.turn-held.ensures.begins;
+      rooted = c.turn-held.ensures.root;
+      opening = c.serve-served.ensures.opening ∙ ap (λ (q : Kept). q.opening) c.value_mut.ensures.value;
+      legal = c.serve-served.ensures.legal;
+      same = c.give.ensures.same;
+      added = c.give.ensures.added;
+    } in
+    answered_turn c.args.pass.now c.turn-held.new.pass c.give.new.pass k k' turn c.args.opener c.args.sync c.args.request.now c.serve-served.result
+    (subst (λ (q : Kept). Adds q c.args.opener c.args.sync c.args.request.now c.serve-served.result k') c.value_mut.ensures.value c.serve-served.ensures.served)
+
+pub returns-clause-pass : goal.returns-clause-pass
+returns-clause-pass g c = answer_goes_on c.args.pass.now c.give.new.pass c.args.opener c.args.sync c.args.request.now c.serve-served.result (returns-clause-served g c)
