@@ -10,6 +10,9 @@ use crate::runs::{below, own};
 use sql_base::{Lock, Mode, NoMemory, TxnName};
 use std::alloc::Global;
 
+/// A run of so many locks or fewer is looked through one by one, which is faster than to go on down.
+const FEW: usize = 16;
+
 /// The first lock that conflicts with the holder's lock of the prefix in the mode. It is sought on the way down to the
 /// prefix, and then among the locks that begin with it.
 pub fn first_bar<'a>(
@@ -23,6 +26,9 @@ pub fn first_bar<'a>(
 {
     let mut run = locks;
     for (depth, byte) in prefix.iter().enumerate() {
+        if run.len() <= FEW {
+            return first_in(run, holder, prefix, mode);
+        }
         if let Some(bar) = first_in(own(run, depth), holder, prefix, mode) {
             return Some(bar);
         }
@@ -51,6 +57,9 @@ fn is_covered(locks: &[Lock], wanted: &Lock) -> bool
     let prefix = wanted.prefix.bytes();
     let mut run = locks;
     for (depth, byte) in prefix.iter().enumerate() {
+        if run.len() <= FEW {
+            return any_covers(run, wanted);
+        }
         if any_covers(own(run, depth), wanted) {
             return true;
         }

@@ -21,7 +21,7 @@ use Rattle.one_thread.specs.One.{became, fate, fault_in, meets, predicate_of, ro
 use Rattle.one_thread.specs.Scaffold.Cells.{now_of, nows, IsKeyed}
 use Rattle.one_thread.specs.Scaffold.Scans.{abort_by, change_abort, changed, changed_by, checked_fate, delete_fate, fate_at, first_abort, if_true, is_change, is_changed, new_fate, row_fate, shown, update_fate}
 use Rattle.one_thread.specs.Scaffold.Statements.{Changing}
-use Rattle.one_thread.specs.Scaffold.Values.{truth_of}
+use Rattle.expression_values.specs.Values.{truth_of}
 use Rattle.one_thread.specs.declared.cells.Cell.{Cell}
 use Rattle.one_thread.specs.declared.scans.Fate.{Fate}
 use Rattle.one_thread.specs.declared.scans.Fate.TheVariants.{Stays}

@@ -19,7 +19,7 @@ use Rattle.sql_base.specs.declared.values.Value.TheVariants as value
 use Rattle.one_thread.specs.Scaffold.Cells.{before_of, befores, kept, now_of, old_row, IsKeyed}
 use Rattle.one_thread.specs.Scaffold.Scans.{changed, changed_by, checked_fate, delete_fate, fate_at, new_fate, row_fate, update_fate}
 use Rattle.one_thread.specs.Scaffold.Statements.{Restorable}
-use Rattle.one_thread.specs.Scaffold.Values.{truth_of}
+use Rattle.expression_values.specs.Values.{truth_of}
 use Rattle.one_thread.specs.declared.cells.Before.{Before}
 use Rattle.one_thread.specs.declared.cells.Before.TheVariants.{Same, Was, Absent}
 use Rattle.one_thread.specs.declared.cells.Cell.{Cell}

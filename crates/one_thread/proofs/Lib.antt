@@ -5,7 +5,6 @@ pub mod Numbers
 mod WorkedRows
 pub mod Failing
 pub mod Written
-pub mod Told
 pub mod Ending
 pub mod Rising
 pub mod Passing

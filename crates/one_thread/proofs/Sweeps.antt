@@ -17,7 +17,7 @@ use Rattle.sql_base.specs.declared.values.Value.{Value}
 use Rattle.one_thread.specs.One.{fault_on, new_row_fault, sooner, statement_fault}
 use Rattle.one_thread.specs.Scaffold.Scans.{abort_by, abort_of, checked_fate, delete_fate, first_abort, new_fate, row_fate, update_fate}
 use Rattle.one_thread.specs.Scaffold.Statements.{Changing}
-use Rattle.one_thread.specs.Scaffold.Values.{truth_of}
+use Rattle.expression_values.specs.Values.{truth_of}
 use Rattle.one_thread.specs.declared.cells.Cell.{Cell}
 
 -- ---- cells of which just those of a window count

@@ -8,7 +8,5 @@ pub mod Scans
 pub mod Sessions
 pub mod Statements
 pub mod Touched
-pub mod Truths
-pub mod Values
 pub mod Windows
 pub mod Worlds

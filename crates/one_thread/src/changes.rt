@@ -5,10 +5,9 @@ ghost use Rattle.std.specs.List.{list_any};
 ghost use Rattle.sql_base.specs.OnRows.{fault_of, first_failing, check_fault, stored, updated};
 ghost use Rattle.sql_base.specs.Rows.{kinds, width};
 ghost use Rattle.sql_base.specs.Val.{val};
-ghost use Rattle.one_thread.specs.Scaffold.Values.{item_in};
+ghost use Rattle.expression_values.specs.Values.{item_in};
 
-use crate::truths::value_on;
-use crate::values::Item;
+use expression_values::{Item, value_on};
 use sql_base::{
     Assign, ColumnKind, EvalFault, Expr, Fault, List, NoMemory, Row, TableDef, Value, padded,
 };

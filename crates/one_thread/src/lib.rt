@@ -14,8 +14,6 @@ mod shown;
 mod statements;
 mod touched;
 mod transactions;
-mod truths;
-mod values;
 mod worlds;
 
 pub use answering::answer;

@@ -3,12 +3,12 @@
 ghost use Rattle.std.specs.Prelude.{◌≡◌, ◌≤◌, ◌++◌, [], length, if◌then◌else◌, IfOk, None, OnOk};
 ghost use Rattle.std.specs.List.{AllByRecursion, cons_option};
 ghost use Rattle.one_thread.specs.Scaffold.Scans.{cell_fate, delete_fate, read_abort, shown, update_fate, Changes, ChangesOne, HasColumns, ScansRows};
-ghost use Rattle.one_thread.specs.Scaffold.Values.{truth_of};
+ghost use Rattle.expression_values.specs.Values.{truth_of};
 ghost use Rattle.sql_base.specs.Val.{filter_val};
 
 use crate::cells::Cell;
 use crate::changes::{fault_of, first_failing, updated};
-use crate::truths::truth;
+use expression_values::truth;
 use sql_base::{
     Abort, Assign, Expr, Fault, List, NoMemory, Packed, Row, Statement, TableDef, pack,
 };

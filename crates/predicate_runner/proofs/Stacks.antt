@@ -10,13 +10,16 @@ use Rattle.sql_base.specs.Kinds.{OfNumber, kind_step}
 use Rattle.sql_base.specs.Rows.{in_i64}
 use Rattle.sql_base.specs.declared.expressions.Expr.TheOpen.{Number}
 use Rattle.sql_base.specs.declared.tables.TableDef.{TableDef}
-use Rattle.predicate_codes.specs.Decoding.{Next, pushed, front, number_in, number_at}
-use Rattle.predicate_runner.specs.Outlines.{Outline, outline_in, fit, outline}
+use Rattle.sql_base.specs.declared.expressions.Expr.{roll-Expr}
+use Rattle.sql_base.specs.declared.expressions.Expr.TheVariants as expr
+use Rattle.sql_base.specs.declared.expressions.Expr.TheVariants.{rolls-Number}
+use Rattle.predicate_codes.specs.Decoding.{Next, Operand, fitting, operand, pushed, front, number_in, number_at}
+use Rattle.predicate_runner.specs.Outlines.{operand_in}
 use Rattle.predicate_runner.specs.Stepping.{seen}
-use Rattle.predicate_runner.specs.declared.kinds.Shape.{Shape}
+use Rattle.predicate_runner.specs.declared.kinds.Operand.{Operand as Held}
 
-pub seen-push : (shapes : List Shape) (s : Shape) → seen (shapes ++ s ∷ []) ≡ outline_in s ∷ seen shapes
-seen-push shapes s = ap (map outline_in) (reverse-append shapes (s ∷ []))
+pub seen-push : (operands : List Held) (o : Held) → seen (operands ++ o ∷ []) ≡ operand_in o ∷ seen operands
+seen-push operands o = ap (map operand_in) (reverse-append operands (o ∷ []))
 
 abbrev pub AreBytes : List ℕ → Type 0
 AreBytes code = (i : ℕ) → get_or code i 0 < 256
@@ -50,11 +53,14 @@ signed_fits : (z : ℤ) (n : ℕ) → n < 2 ^ 64 → z ≡ cast_signed w64 n →
 signed_fits (pos k) n fits e = lt-ltb k (2 ^ 63) (omega (arith, ints))
 signed_fits (negsuc k) n fits e = lt-ltb k (2 ^ 63) (omega (arith, ints))
 
-pub number-steps : (table : TableDef) (room : ℕ) (code : List ℕ) (old new : List Outline) (o : Outline) → AreBytes code → 8 ≤ length code → fit room 1 (Some OfNumber) ≡ Some o → new ≡ o ∷ old
-    → option_and_then (λ n. pushed 8 old (outline table room (Number (cast_signed w64 n)))) (number_at w64 code) ≡ Some (record { skip = 8; stack = new })
-number-steps table room code old new o bytes enough made is =
+pub number-steps : (table : TableDef) (room : ℕ) (code : List ℕ) (z : ℤ) (old new : List Operand) (o : Operand) → AreBytes code → 8 ≤ length code → z ≡ cast_signed w64 (from_be_bytes w64 (take 8 code)) → fitting room (expr.Number z) 1 (Some OfNumber) ≡ Some o → new ≡ o ∷ old
+    → option_and_then (λ n. pushed 8 old (operand table room (Number (cast_signed w64 n)))) (number_at w64 code) ≡ Some (record { skip = 8; stack = new })
+number-steps table room code z old new o bytes enough read made is =
     let n = from_be_bytes w64 (take 8 code) in
     let fits : in_i64 (cast_signed w64 n) ≡ true = signed_fits (cast_signed w64 n) n (number_below (take 8 code) (take_are_bytes 8 code bytes)) refl in
     let kind : kind_step table (Number (cast_signed w64 n)) ≡ Some OfNumber = rw fits refl in
-    ap (option_and_then (λ m. pushed 8 old (outline table room (Number (cast_signed w64 m))))) (number_at-there code bytes enough)
-    ∙ ap (λ k. pushed 8 old (fit room 1 k)) kind ∙ ap (pushed 8 old) made ∙ ap (λ (stack : List Outline). let next : Option (Next Outline) = Some (record { skip = 8; stack = stack }) in next) (sym is)
+    ap (option_and_then (λ m. pushed 8 old (operand table room (Number (cast_signed w64 m))))) (number_at-there code bytes enough)
+    ∙ ap (λ k. pushed 8 old (fitting room (roll-Expr (Number (cast_signed w64 n))) 1 k)) kind
+    ∙ ap (λ e. pushed 8 old (fitting room e 1 (Some OfNumber))) (rolls-Number (cast_signed w64 n))
+    ∙ ap (λ (m : ℤ). pushed 8 old (fitting room (expr.Number m) 1 (Some OfNumber))) (sym read)
+    ∙ ap (pushed 8 old) made ∙ ap (λ (stack : List Operand). let next : Option (Next Operand) = Some (record { skip = 8; stack = stack }) in next) (sym is)

@@ -4,11 +4,7 @@ use Rattle.std.specs.Prelude.{option_and_then}
 use Rattle.sql_base.specs.declared.expressions.Expr.TheOpen.{Expr-F}
 use Rattle.sql_base.specs.declared.tables.TableDef.{TableDef}
 use Rattle.predicate_codes.specs.declared.opcodes.Opcode.{Opcode}
-use Rattle.predicate_codes.specs.declared.opcodes.Opcode.TheVariants.{DoAnd, DoOr}
-use Rattle.predicate_runner.specs.declared.kinds.Shape.{Shape}
-use Rattle.predicate_codes.specs.Decoding.{Next, after, walk, opcode_of}
-use Rattle.predicate_runner.specs.Outlines.{Outline, outline, outlined}
-use Rattle.predicate_runner.specs.Stepping.{seen, stepped}
+use Rattle.predicate_codes.specs.Decoding.{Next, after, decoded, operand, walk, opcode_of}
 
 module _ {A : Type 0} (make : Expr-F A → Option A) (right : List ℕ → Option A) where
   walk-drop : (n : ℕ) (code : List ℕ) (stack : List A) → n ≤ length code → walk make right n stack code ≡ walk make right 0 stack (drop n code)
@@ -31,13 +27,6 @@ module _ {A : Type 0} (make : Expr-F A → Option A) (right : List ℕ → Optio
   pub walk-unknown : (byte : ℕ) (code : List ℕ) (old : List A) → opcode_of byte ≡ None → walk make right 0 old (byte ∷ code) ≡ None
   walk-unknown byte code old is = ap (λ o. option_and_then (λ (n : Next A). walk make right n.skip n.stack code) (option_and_then (λ (p : Opcode). after make right p code old) o)) is
 
-pub outlined-walk : (table : TableDef) (room : ℕ) (code : List ℕ) → 0 < room → outlined table room code ≡ walk (outline table room) (outlined table (room - 1)) 0 [] code
-outlined-walk table zero code some = absurd (omega arith)
-outlined-walk table (suc room) code some = let e : suc room - 1 ≡ room = omega arith in rw e refl
-
-pub or_as_and : (table : TableDef) (room : ℕ) (code : List ℕ) (stack : List Shape) → stepped table room DoOr code stack ≡ stepped table room DoAnd code stack
-or_as_and table room code stack = same (seen stack)
-  where
-    same : (s : List Outline) → after (outline table room) (outlined table (room - 1)) DoOr code s ≡ after (outline table room) (outlined table (room - 1)) DoAnd code s
-    same [] = refl
-    same (a ∷ s) = refl
+pub decoded-walk : (table : TableDef) (room : ℕ) (code : List ℕ) → 0 < room → decoded table room code ≡ walk (operand table room) (decoded table (room - 1)) 0 [] code
+decoded-walk table zero code some = absurd (omega arith)
+decoded-walk table (suc room) code some = let e : suc room - 1 ≡ room = omega arith in rw e refl

@@ -1,3 +1,2 @@
 -- What proofs keep from step to step.
-pub mod Running
 pub mod Texts

@@ -7,9 +7,3 @@ pub enum Item<'a> {
     Text(&'a [u8]),
     Truth(bool),
 }
-
-impl<'a> Default for Item<'a> {
-    fn default() -> Item<'a> {
-        Item::Truth(false)
-    }
-}

@@ -3,7 +3,8 @@
 ghost use Rattle.std.specs.Prelude.{◌≡◌, ◌+◌, ◌&&◌, if◌then◌else◌, length, nat_le, option_map, slice_get, None, Some};
 ghost use Rattle.sql_base.specs.Kinds.{OfNumber, OfText, kind_of, kind_of_column, of_arith, of_compare, of_truths};
 ghost use Rattle.sql_base.specs.Rows.{in_i64, is_printable, kinds};
-ghost use Rattle.predicate_runner.specs.Outlines.{fit, kind_in, outline_in};
+ghost use Rattle.predicate_codes.specs.Decoding.{fitting};
+ghost use Rattle.predicate_runner.specs.Outlines.{kind_in, operand_in};
 
 use sql_base::{ColumnKind, Expr, TableDef, is_printable};
 
@@ -15,9 +16,10 @@ pub enum ExprKind {
     Truth,
 }
 
-/// What is kept of an operand while a code is verified.
-#[derive(Clone, Copy)]
-pub struct Shape {
+/// An expression that was read, while a code is verified: it is so deep.
+#[derive(Drop)]
+pub struct Operand {
+    pub tree: Expr,
     pub kind: ExprKind,
     pub depth: u32,
 }
@@ -78,14 +80,15 @@ pub fn of_truths(a: Option<ExprKind>, b: Option<ExprKind>) -> Option<ExprKind>
     }
 }
 
-/// An operand of the kind, over operands of at most a depth, if it isn't deeper than there is room.
-pub fn fit(kind: Option<ExprKind>, below: u32, room: u32) -> Option<Shape>
-    ensures { option_map outline_in result ≡ fit room (below + 1) (option_map kind_in kind) }
+/// The expression as an operand of the kind, over operands of at most a depth, if it isn't deeper than there is room.
+pub fn fit(tree: Expr, kind: Option<ExprKind>, below: u32, room: u32) -> Option<Operand>
+    ensures { option_map operand_in result ≡ fitting room tree (below + 1) (option_map kind_in kind) }
 {
     match kind {
         Some(kind) => {
             if below < room {
-                Some(Shape {
+                Some(Operand {
+                    tree,
                     kind,
                     depth: below + 1,
                 })

@@ -1,15 +1,17 @@
-//! The instructions of a code, judged one at a time: what each leaves of the kinds and depths of its operands.
+//! The instructions of a code, read one at a time: what each leaves of the operands on the stack.
 
 ghost use Rattle.std.specs.Prelude.{◌≡◌, ◌≤◌, ◌∷◌, [], length, map, option_map, ◌+◌, Option, Some, None, Err, IfOk, IfSome, OnOk};
-ghost use Rattle.predicate_codes.specs.Decoding.{counted_at};
-ghost use Rattle.predicate_runner.specs.Outlines.{Outline, outline_in};
+ghost use Rattle.predicate_codes.specs.Decoding.{Operand as Read, counted_at};
+ghost use Rattle.predicate_runner.specs.Outlines.{operand_in};
 ghost use Rattle.predicate_runner.specs.Stepping.{Steps, seen, stepped};
 
 use crate::kinds::{
-    ExprKind, Shape, fit, kind_of_column, kind_of_text, of_arith, of_compare, of_truths,
+    ExprKind, Operand, fit, kind_of_column, kind_of_text, of_arith, of_compare, of_truths,
 };
+use crate::trees;
 use predicate_codes::Opcode;
-use sql_base::{ArithOp, CompareOp, NoMemory, TableDef};
+use sql_base::{ArithOp, CompareOp, Expr, NoMemory, TableDef, Text};
+use std::alloc::Global;
 
 /// Why bytes were not taken as a code.
 #[derive(Clone, Copy, Debug, PartialEq, Eq)]
@@ -29,21 +31,19 @@ impl From<NoMemory> for CodeFault {
     }
 }
 
-pub fn push(stack: &mut Vec<Shape>, shape: Option<Shape>) -> Result<(), CodeFault>
-    ensures ok { OnOk result ((o : Outline) × (option_map outline_in shape ≡ Some o) × (seen stack.new.items ≡ o ∷ seen stack.old.items)) }
-    ensures bad { result ≡ Err CodeFault.BadCode → option_map outline_in shape ≡ None }
+pub fn push(stack: &mut Vec<Operand>, operand: Option<Operand>) -> Result<(), CodeFault>
+    ensures ok { OnOk result ((o : Read) × (option_map operand_in operand ≡ Some o) × (seen stack.new.items ≡ o ∷ seen stack.old.items)) }
+    ensures bad { result ≡ Err CodeFault.BadCode → option_map operand_in operand ≡ None }
 {
-    match shape {
-        Some(shape) => match stack.push(shape) {
-            Ok(()) => Ok(()),
-            Err(_) => Err(CodeFault::NoMemory),
-        },
-        None => Err(CodeFault::BadCode),
-    }
+    let Some(operand) = operand else {
+        return Err(CodeFault::BadCode);
+    };
+    stack.push(operand).map_err(NoMemory::from)?;
+    Ok(())
 }
 
-pub fn pop(stack: &mut Vec<Shape>) -> Option<Shape>
-    ensures some { IfSome result (λ s. seen stack.old.items ≡ outline_in s ∷ seen stack.new.items) }
+pub fn pop(stack: &mut Vec<Operand>) -> Option<Operand>
+    ensures some { IfSome result (λ o. seen stack.old.items ≡ operand_in o ∷ seen stack.new.items) }
     ensures none { result ≡ None → seen stack.old.items ≡ [] }
 {
     stack.pop()
@@ -53,7 +53,7 @@ pub fn step_number(
     behind: &[u8],
     table: &TableDef,
     room: u32,
-    stack: &mut Vec<Shape>,
+    stack: &mut Vec<Operand>,
 ) -> Result<usize, CodeFault>
     ensures ok { IfOk result (λ skip. Steps table.now room Opcode.PushNumber behind.now stack.old.items stack.new.items skip) }
     ensures bad { result ≡ Err CodeFault.BadCode → stepped table.now room Opcode.PushNumber behind.now stack.old.items ≡ None }
@@ -61,106 +61,21 @@ pub fn step_number(
     if behind.len() < 8 {
         return Err(CodeFault::BadCode);
     }
-    push(stack, fit(Some(ExprKind::Number), 0, room))?;
+    let bytes = <[u8; 8]>::try_from(&behind[..8]).unwrap();
+    let number = u64::from_be_bytes(bytes).cast_signed();
+    push(
+        stack,
+        fit(Expr::Number(number), Some(ExprKind::Number), 0, room),
+    )?;
     Ok(8)
 }
 
-pub fn step_arith(
-    op: ArithOp,
-    behind: &[u8],
-    table: &TableDef,
-    room: u32,
-    stack: &mut Vec<Shape>,
-) -> Result<usize, CodeFault>
-    ensures ok { IfOk result (λ skip. Steps table.now room (Opcode.DoArith op) behind.now stack.old.items stack.new.items skip) }
-    ensures bad { result ≡ Err CodeFault.BadCode → stepped table.now room (Opcode.DoArith op) behind.now stack.old.items ≡ None }
-{
-    let Some(b) = pop(stack) else {
-        return Err(CodeFault::BadCode);
-    };
-    let Some(a) = pop(stack) else {
-        return Err(CodeFault::BadCode);
-    };
-    push(
-        stack,
-        fit(
-            of_arith(Some(a.kind), Some(b.kind)),
-            a.depth.max(b.depth),
-            room,
-        ),
-    )?;
-    Ok(0)
-}
-
-pub fn step_compare(
-    op: CompareOp,
-    behind: &[u8],
-    table: &TableDef,
-    room: u32,
-    stack: &mut Vec<Shape>,
-) -> Result<usize, CodeFault>
-    ensures ok { IfOk result (λ skip. Steps table.now room (Opcode.DoCompare op) behind.now stack.old.items stack.new.items skip) }
-    ensures bad { result ≡ Err CodeFault.BadCode → stepped table.now room (Opcode.DoCompare op) behind.now stack.old.items ≡ None }
-{
-    let Some(b) = pop(stack) else {
-        return Err(CodeFault::BadCode);
-    };
-    let Some(a) = pop(stack) else {
-        return Err(CodeFault::BadCode);
-    };
-    push(
-        stack,
-        fit(
-            of_compare(Some(a.kind), Some(b.kind)),
-            a.depth.max(b.depth),
-            room,
-        ),
-    )?;
-    Ok(0)
-}
-
-pub fn step_not(
-    behind: &[u8],
-    table: &TableDef,
-    room: u32,
-    stack: &mut Vec<Shape>,
-) -> Result<usize, CodeFault>
-    ensures ok { IfOk result (λ skip. Steps table.now room Opcode.DoNot behind.now stack.old.items stack.new.items skip) }
-    ensures bad { result ≡ Err CodeFault.BadCode → stepped table.now room Opcode.DoNot behind.now stack.old.items ≡ None }
-{
-    let Some(a) = pop(stack) else {
-        return Err(CodeFault::BadCode);
-    };
-    push(
-        stack,
-        fit(of_truths(Some(a.kind), Some(a.kind)), a.depth, room),
-    )?;
-    Ok(0)
-}
-
-pub fn step_column(
-    behind: &[u8],
-    table: &TableDef,
-    room: u32,
-    stack: &mut Vec<Shape>,
-) -> Result<usize, CodeFault>
-    ensures ok { IfOk result (λ skip. Steps table.now room Opcode.PushColumn behind.now stack.old.items stack.new.items skip) }
-    ensures bad { result ≡ Err CodeFault.BadCode → stepped table.now room Opcode.PushColumn behind.now stack.old.items ≡ None }
-{
-    match behind.first() {
-        Some(column) => {
-            push(stack, fit(kind_of_column(table, *column), 0, room))?;
-            Ok(1)
-        }
-        None => Err(CodeFault::BadCode),
-    }
-}
-
 pub fn step_text(
+    alloc: Global,
     behind: &[u8],
     table: &TableDef,
     room: u32,
-    stack: &mut Vec<Shape>,
+    stack: &mut Vec<Operand>,
 ) -> Result<usize, CodeFault>
     ensures ok { IfOk result (λ skip. Steps table.now room Opcode.PushText behind.now stack.old.items stack.new.items skip) }
     ensures bad { result ≡ Err CodeFault.BadCode → stepped table.now room Opcode.PushText behind.now stack.old.items ≡ None }
@@ -171,11 +86,100 @@ pub fn step_text(
             if rest.len() < count {
                 return Err(CodeFault::BadCode);
             }
-            push(stack, fit(kind_of_text(*width, &rest[..count]), 0, room))?;
+            let text = &rest[..count];
+            let kind = kind_of_text(*width, text);
+            let bytes = text.to_vec(alloc).map_err(NoMemory::from)?;
+            push(stack, fit(Expr::Text(Text::from_vec(bytes)), kind, 0, room))?;
             Ok(count + 1)
         }
         None => Err(CodeFault::BadCode),
     }
+}
+
+pub fn step_column(
+    behind: &[u8],
+    table: &TableDef,
+    room: u32,
+    stack: &mut Vec<Operand>,
+) -> Result<usize, CodeFault>
+    ensures ok { IfOk result (λ skip. Steps table.now room Opcode.PushColumn behind.now stack.old.items stack.new.items skip) }
+    ensures bad { result ≡ Err CodeFault.BadCode → stepped table.now room Opcode.PushColumn behind.now stack.old.items ≡ None }
+{
+    match behind.first() {
+        Some(column) => {
+            let kind = kind_of_column(table, *column);
+            push(stack, fit(Expr::Column(*column), kind, 0, room))?;
+            Ok(1)
+        }
+        None => Err(CodeFault::BadCode),
+    }
+}
+
+pub fn step_arith(
+    alloc: Global,
+    op: ArithOp,
+    behind: &[u8],
+    table: &TableDef,
+    room: u32,
+    stack: &mut Vec<Operand>,
+) -> Result<usize, CodeFault>
+    ensures ok { IfOk result (λ skip. Steps table.now room (Opcode.DoArith op) behind.now stack.old.items stack.new.items skip) }
+    ensures bad { result ≡ Err CodeFault.BadCode → stepped table.now room (Opcode.DoArith op) behind.now stack.old.items ≡ None }
+{
+    let Some(b) = pop(stack) else {
+        return Err(CodeFault::BadCode);
+    };
+    let Some(a) = pop(stack) else {
+        return Err(CodeFault::BadCode);
+    };
+    let kind = of_arith(Some(a.kind), Some(b.kind));
+    let below = a.depth.max(b.depth);
+    let tree = trees::arith(alloc, op, a.tree, b.tree)?;
+    push(stack, fit(tree, kind, below, room))?;
+    Ok(0)
+}
+
+pub fn step_compare(
+    alloc: Global,
+    op: CompareOp,
+    behind: &[u8],
+    table: &TableDef,
+    room: u32,
+    stack: &mut Vec<Operand>,
+) -> Result<usize, CodeFault>
+    ensures ok { IfOk result (λ skip. Steps table.now room (Opcode.DoCompare op) behind.now stack.old.items stack.new.items skip) }
+    ensures bad { result ≡ Err CodeFault.BadCode → stepped table.now room (Opcode.DoCompare op) behind.now stack.old.items ≡ None }
+{
+    let Some(b) = pop(stack) else {
+        return Err(CodeFault::BadCode);
+    };
+    let Some(a) = pop(stack) else {
+        return Err(CodeFault::BadCode);
+    };
+    let kind = of_compare(Some(a.kind), Some(b.kind));
+    let below = a.depth.max(b.depth);
+    let tree = trees::compare(alloc, op, a.tree, b.tree)?;
+    push(stack, fit(tree, kind, below, room))?;
+    Ok(0)
+}
+
+pub fn step_not(
+    alloc: Global,
+    behind: &[u8],
+    table: &TableDef,
+    room: u32,
+    stack: &mut Vec<Operand>,
+) -> Result<usize, CodeFault>
+    ensures ok { IfOk result (λ skip. Steps table.now room Opcode.DoNot behind.now stack.old.items stack.new.items skip) }
+    ensures bad { result ≡ Err CodeFault.BadCode → stepped table.now room Opcode.DoNot behind.now stack.old.items ≡ None }
+{
+    let Some(a) = pop(stack) else {
+        return Err(CodeFault::BadCode);
+    };
+    let kind = of_truths(Some(a.kind), Some(a.kind));
+    let tree = trees::not(alloc, a.tree)?;
+    push(stack, fit(tree, kind, a.depth, room))?;
+    Ok(0)
 }
 
 /// The bytes that have their length in 2 bytes before them.

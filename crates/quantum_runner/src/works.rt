@@ -11,7 +11,7 @@ ghost use Rattle.quantum_core.specs.Verdicts.{if_kept, on_new_row};
 ghost use Rattle.quantum_runner.specs.Scaffold.Works.{IsDoing, does_change, doing_in, effect_on, met_by};
 
 use crate::tables::CheckedTable;
-use predicate_runner::{Item, Verified, run};
+use predicate_runner::{Verified, holds_on};
 use quantum_core::{Effect, Verdict};
 use sql_base::{EvalFault, Fault, List, NoMemory, Row, pack};
 use std::alloc::Global;
@@ -107,10 +107,8 @@ fn is_true(code: &Verified, row: &Row) -> Result<bool, Fault>
     requires { (table : TableDef) × (kind : Kind) × IsExpr table kind code.now.tree × IsRow table row.now }
     ensures { result ≡ met_by (val code.now.tree row.now) }
 {
-    match run(code, row) {
-        Ok(Item::Truth(truth)) => Ok(truth),
-        Ok(Item::Number(_number)) => Ok(false),
-        Ok(Item::Text(_text)) => Ok(false),
+    match holds_on(code, row) {
+        Ok(truth) => Ok(truth),
         Err(fault) => Err(fault_of(fault)),
     }
 }

@@ -17,7 +17,7 @@ use Rattle.sql_base.specs.declared.values.Value.{Value}
 use Rattle.range_finder.specs.Range.{is_in}
 use Rattle.sql_base.specs.declared.key_ranges.KeyRange.{KeyRange}
 use Rattle.one_thread.specs.Scaffold.Cells.{replaced}
-use Rattle.one_thread.specs.Scaffold.Values.{truth_of}
+use Rattle.expression_values.specs.Values.{truth_of}
 use Rattle.one_thread.specs.declared.cells.Cell.{Cell}
 use Rattle.one_thread.specs.declared.scans.Fate.{Fate}
 use Rattle.one_thread.specs.declared.scans.Fate.TheVariants.{Stays, Becomes, Fails}

@@ -18,7 +18,7 @@ pub loop-depth-preserved : goal.loop-depth-preserved
 loop-depth-preserved c =
     let seek : Lock → Bool = λ own. covers own c.args.wanted.now in
     let meets : (l : Lock) → seek l ≡ true → overlaps c.bytes-prefix.result.now l.prefix ≡ true = λ l e. subst (λ (p : List ℕ). overlaps p l.prefix ≡ true) (sym c.bytes-prefix.ensures) (cover-overlaps c.args.wanted.now l e) in
-    let none : list_any seek c.own.result.now ≡ false = sym c.any_covers.ensures ∙ c.if-any_covers.false in (
+    let none : list_any seek c.own.result.now ≡ false = sym c.any_covers-in-loop-depth.ensures ∙ c.if-any_covers.false in (
       node-next c.bytes-prefix.result.now c.loop-depth.depth 0 c.loop-depth.run.now c.own.result.now c.below-run.result.now c.loop-depth-test.true c.loop-depth.invariant.0 c.own.ensures.own c.below-run.ensures,
       any-next c.bytes-prefix.result.now c.loop-depth.depth 0 c.loop-depth.run.now c.own.result.now c.below-run.result.now c.loop-depth-test.true c.loop-depth.invariant.0 c.own.ensures.own c.below-run.ensures seek meets none
           ∙ c.loop-depth.invariant.1,
@@ -32,7 +32,7 @@ own-requires-2 c =
 pub returns-then-any_covers : goal.returns-then-any_covers
 returns-then-any_covers c =
     let seek : Lock → Bool = λ own. covers own c.args.wanted.now in
-    sym (any-first seek c.own.result.now c.loop-depth.run.now c.own.ensures.front (sym c.any_covers.ensures ∙ c.if-any_covers.true)) ∙ c.loop-depth.invariant.1
+    sym (any-first seek c.own.result.now c.loop-depth.run.now c.own.ensures.front (sym c.any_covers-in-loop-depth.ensures ∙ c.if-any_covers.true)) ∙ c.loop-depth.invariant.1
 
 pub returns : goal.returns
 returns c =

@@ -1,5 +1,5 @@
-use Rattle.one_thread.proofs.Told.{made_told}
-use Rattle.one_thread.proofs.truths.+number_on.Goals as goal
+use Rattle.expression_values.proofs.Told.{made_told}
+use Rattle.expression_values.proofs.truths.+number_on.Goals as goal
 
 pub returns-in-None-plain_number : goal.returns-in-None-plain_number
 returns-in-None-plain_number t c =

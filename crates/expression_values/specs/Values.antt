@@ -2,8 +2,8 @@
 use Rattle.std.specs.Prelude.{Bool, false, Result, Ok, Err}
 use Rattle.sql_base.specs.Val.{Item, Outcome, IsNumber, IsText, IsTruth, IsNothing}
 use Rattle.sql_base.specs.declared.faults.EvalFault.{EvalFault}
-use Rattle.one_thread.specs.declared.values.Item.{Item as Held}
-use Rattle.one_thread.specs.declared.values.Item.TheVariants as held
+use Rattle.expression_values.specs.declared.values.Item.{Item as Held}
+use Rattle.expression_values.specs.declared.values.Item.TheVariants as held
 
 abbrev pub item_in : Held → Item
 item_in (held.Number n) = IsNumber n

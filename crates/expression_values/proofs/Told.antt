@@ -6,8 +6,8 @@ use Rattle.sql_base.specs.declared.expressions.ArithOp.{ArithOp}
 use Rattle.sql_base.specs.declared.expressions.Expr.{Expr}
 use Rattle.sql_base.specs.declared.expressions.Expr.TheVariants as expr
 use Rattle.sql_base.specs.declared.values.Value.{Value}
-use Rattle.one_thread.specs.Scaffold.Truths.{TellsNumber}
-use Rattle.one_thread.specs.declared.truths.Number.{Number}
+use Rattle.expression_values.specs.Truths.{TellsNumber}
+use Rattle.expression_values.specs.declared.truths.Number.{Number}
 
 pub made_told : (op : ArithOp) (a b x y e : Expr) (row : List Value) (left right made : Number) → e ≡ expr.Arith op a b → x ≡ a → y ≡ b → TellsNumber left (val x row) → TellsNumber right (val y row)
     → ((p q : Outcome) → TellsNumber left p → TellsNumber right q → TellsNumber made (both (computed op) p q)) → TellsNumber made (val e row)

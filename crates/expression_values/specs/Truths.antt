@@ -2,10 +2,10 @@
 use Rattle.std.specs.Prelude.{◌≡◌, Bool, true, false, Ok, Err}
 use Rattle.sql_base.specs.Val.{Outcome, IsNumber, IsTruth}
 use Rattle.sql_base.specs.declared.faults.EvalFault.TheVariants.{Overflow, ZeroDivide}
-use Rattle.one_thread.specs.declared.truths.Number.{Number}
-use Rattle.one_thread.specs.declared.truths.Number.TheVariants as number
-use Rattle.one_thread.specs.declared.truths.Verdict.{Verdict}
-use Rattle.one_thread.specs.declared.truths.Verdict.TheVariants as verdict
+use Rattle.expression_values.specs.declared.truths.Number.{Number}
+use Rattle.expression_values.specs.declared.truths.Number.TheVariants as number
+use Rattle.expression_values.specs.declared.truths.Verdict.{Verdict}
+use Rattle.expression_values.specs.declared.truths.Verdict.TheVariants as verdict
 
 abbrev pub TellsNumber : Number → Outcome → Type 0
 TellsNumber (number.Is n) came = came ≡ Ok (IsNumber n)

@@ -2,7 +2,7 @@
 
 ghost use Rattle.std.specs.Prelude.{◌≡◌, Ok, slice_get};
 ghost use Rattle.sql_base.specs.Val.{column_item, compared, computed, val};
-ghost use Rattle.one_thread.specs.Scaffold.Values.{item_in, outcome_in};
+ghost use Rattle.expression_values.specs.Values.{item_in, outcome_in};
 
 use sql_base::{ArithOp, CompareOp, EvalFault, Expr, Value, compare_texts, compute, holds};
 

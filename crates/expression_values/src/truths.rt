@@ -2,8 +2,8 @@
 
 ghost use Rattle.std.specs.Prelude.{◌≡◌, IfSome, Ok, slice_get};
 ghost use Rattle.sql_base.specs.Val.{both, column_item, compared, computed, filter_val, val, IsNumber, Outcome};
-ghost use Rattle.one_thread.specs.Scaffold.Values.{outcome_in, truth_of};
-ghost use Rattle.one_thread.specs.Scaffold.Truths.{Judges, TellsNumber};
+ghost use Rattle.expression_values.specs.Values.{outcome_in, truth_of};
+ghost use Rattle.expression_values.specs.Truths.{Judges, TellsNumber};
 
 use crate::values::{Item, compared, value};
 use sql_base::{ArithOp, CompareOp, EvalFault, Expr, Value, compute, holds};
@@ -215,16 +215,23 @@ fn judge(expr: &Expr, row: &[Value]) -> Verdict
     }
 }
 
+/// Whether the expression is true on the row, or its fault. What is no truth value isn't true.
+pub fn is_true(expr: &Expr, row: &[Value]) -> Result<bool, EvalFault>
+    ensures { result ≡ truth_of (val expr.now row.now) }
+{
+    match judge(expr, row) {
+        Verdict::Is(truth) => Ok(truth),
+        Verdict::Fails(fault) => Err(fault),
+        Verdict::Other => Ok(false),
+    }
+}
+
 /// Whether the predicate is true on the row, or its fault. An absent one is true.
 pub fn truth(filter: &Option<Expr>, row: &[Value]) -> Result<bool, EvalFault>
     ensures { result ≡ truth_of (filter_val filter.now row.now) }
 {
     match filter {
         None => Ok(true),
-        Some(expr) => match judge(expr, row) {
-            Verdict::Is(truth) => Ok(truth),
-            Verdict::Fails(fault) => Err(fault),
-            Verdict::Other => Ok(false),
-        },
+        Some(expr) => is_true(expr, row),
     }
 }
