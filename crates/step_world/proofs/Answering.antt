@@ -32,8 +32,9 @@ use Rattle.step_world.specs.declared.processes.DiskProcess.{DiskProcess}
 use Rattle.step_world.specs.declared.seats.Seat.{Seat}
 use Rattle.step_world.proofs.Acting.{next_scene, session_acts}
 use Rattle.step_world.proofs.Opened.{lies_at, log_at, way_at}
-use Rattle.step_world.proofs.Places.{fold_one, map_set}
+use Rattle.step_world.proofs.Places.{fold_one}
 use Rattle.step_world.proofs.Staying.{StillPosted, acts_on, serves_nothing, unserved}
+use Rattle.sql_base.proofs.ListFacts.{map_set}
 
 -- nothing is left of a request that was answered
 fresh_steps : (o : Option Sending) → steps_with o 0 false ≡ []

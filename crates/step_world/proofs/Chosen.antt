@@ -18,7 +18,8 @@ use Rattle.step_world.specs.Scaffold.Worlds.{Driving, GoesOn, GoesOnWith, HasMai
 use Rattle.step_world.specs.declared.choosing.Agent.{Agent}
 use Rattle.step_world.specs.declared.choosing.Agent.TheVariants.{Partition}
 use Rattle.step_world.specs.declared.processes.DiskProcess.{DiskProcess}
-use Rattle.step_world.proofs.Places.{get_map, map_set}
+use Rattle.step_world.proofs.Places.{get_map}
+use Rattle.sql_base.proofs.ListFacts.{map_set}
 
 pub from_same : {T E : Type 0} (result : Result T E) (actor : Actor) (tellings : List Telling) (a b : Scene) → OnOk result (GoesOn actor a b) → OnOk result (GoesOnFrom actor tellings a tellings b)
 from_same (Ok u) actor tellings a b goes = λ setting run chosen. goes setting tellings run chosen

@@ -40,9 +40,10 @@ use Rattle.step_world.specs.declared.seats.Seat.{Seat}
 use Rattle.step_world.proofs.Acting.{next_scene, others_stay, own_steps, session_acts}
 use Rattle.step_world.proofs.Answering.{above_in, above_open, fresh_stands, no_steps, unserved_so_far}
 use Rattle.step_world.proofs.Opened.{draw_way, lies_at, log_at, way_at}
-use Rattle.step_world.proofs.Places.{each_map, fold_one, get_set_same, map_set}
+use Rattle.step_world.proofs.Places.{each_map, fold_one, get_set_same}
 use Rattle.step_world.proofs.Staying.{StillPosted, acts_on, process_stays, serves_nothing, unserved}
 use Rattle.step_world.proofs.Taking.{no_sendings}
+use Rattle.sql_base.proofs.ListFacts.{map_set}
 
 module _ (setting : Setting) (tellings : List Telling) (w : Scene) (at : ℕ) (s new : Seat Asking) (name : TxnName) (floor : ℕ) (run : Driving setting tellings w) (here : slice_get w.seats at ≡ Some s)
     (draws : next_at s.requester.way 0 ≡ Draws name floor) (answered : IsAnswered (Stamp (next_drawn (record_of w) name floor).stamp) s new) where

@@ -15,8 +15,8 @@ use Rattle.driver_laws.specs.Carrying.{Telling}
 use Rattle.step_world.specs.Scaffold.Worlds.{Driving, Scene, Setting, record_of}
 use Rattle.step_world.specs.declared.processes.DiskProcess.{DiskProcess}
 use Rattle.step_world.proofs.Marks.{no_mark}
-use Rattle.step_world.proofs.Places.{map_set}
 use Rattle.step_world.proofs.Replies.{history_is, now_is, unmarked_at}
+use Rattle.sql_base.proofs.ListFacts.{map_set}
 
 unmarked_set : (count i : ℕ) → slice_set (replicate count no_mark) i no_mark ≡ replicate count no_mark
 unmarked_set zero i = refl

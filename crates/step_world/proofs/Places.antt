@@ -39,11 +39,6 @@ module _ {X : Type 0} where
   each_map P Q xs to each i z found = to i z found (each i z found)
 
 module _ {X Y : Type 0} (f : X → Y) where
-  pub map_set : (xs : List X) (i : ℕ) (y : X) → map f (slice_set xs i y) ≡ slice_set (map f xs) i (f y)
-  map_set [] i y = refl
-  map_set (z ∷ xs) zero y = refl
-  map_set (z ∷ xs) (suc i) y = ap (λ ys. f z ∷ ys) (map_set xs i y)
-
   pub map_set_same : (xs : List X) (i : ℕ) (x y : X) → slice_get xs i ≡ Some x → f y ≡ f x → map f (slice_set xs i y) ≡ map f xs
   map_set_same [] i x y is same = refl
   map_set_same (z ∷ xs) zero x y is same = let at : z ≡ x = cc in ap (λ w. w ∷ map f xs) (same ∙ ap f (sym at))

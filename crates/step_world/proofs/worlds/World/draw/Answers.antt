@@ -19,9 +19,8 @@ use Rattle.step_world.proofs.Acting.{next_scene}
 use Rattle.step_world.proofs.Drawing.{counted_at, drew_on, low_floor, undrawn}
 use Rattle.step_world.proofs.Handed.{later_one, same_scene, within_map}
 use Rattle.step_world.proofs.Opened.{seat_is}
-use Rattle.step_world.proofs.Places.{map_set}
 use Rattle.step_world.proofs.worlds.World.draw.Goals as goal
-use Rattle.sql_base.proofs.ListFacts.{all_at}
+use Rattle.sql_base.proofs.ListFacts.{all_at, map_set}
 
 goes_drawn : {T E : Type 0} (result : Result T E) (w : Scene) (at : ℕ) (s new : Seat Asking) (name : TxnName) (floor stamp : ℕ) (journal : List Drawn) (acts : List Act) → slice_get w.seats at ≡ Some s → next_at s.requester.way 0 ≡ Draws name floor
     → s.number ≡ suc at → stamp ≡ (next_drawn (record_of w) name floor).stamp → journal ≡ w.journal ++ next_drawn (record_of w) name floor ∷ [] → acts ≡ w.acts ++ Draw s.number ∷ [] → OnOk result (IsAnswered (Stamp stamp) s new)

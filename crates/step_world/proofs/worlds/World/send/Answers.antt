@@ -18,11 +18,10 @@ use Rattle.step_world.proofs.Acting.{next_scene}
 use Rattle.step_world.proofs.Measured.{sent-less}
 use Rattle.step_world.proofs.Handed.{few_losses, later_one, may_fail, process_at, same_scene, within_map}
 use Rattle.step_world.proofs.Opened.{OpenSeat, opened_at, out_is, seat_is, turn_send}
-use Rattle.step_world.proofs.Places.{map_set}
 use Rattle.step_world.proofs.Sending.{message_of, posted_to}
 use Rattle.step_world.proofs.Sent.{sent_on}
 use Rattle.step_world.proofs.worlds.World.send.Goals as goal
-use Rattle.sql_base.proofs.ListFacts.{all_at}
+use Rattle.sql_base.proofs.ListFacts.{all_at, map_set}
 
 -- the scene behind a sending is the one that the run goes on with
 goes_sent : {T E : Type 0} (result : Result T E) (w : Scene) (at : ℕ) (s new : Seat Asking) (passage : Passage) (out : Outgoing) (d after : DiskProcess) (acts : List Act) (open_seat : OpenSeat w at s) → turn_of s ≡ turn.Send

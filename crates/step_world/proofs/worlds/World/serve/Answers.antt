@@ -13,9 +13,10 @@ use Rattle.step_world.specs.declared.processes.DiskProcess.{DiskProcess}
 use Rattle.step_world.specs.declared.seats.Seat.{Seat}
 use Rattle.step_world.proofs.Measured.{served-less}
 use Rattle.step_world.proofs.Handed.{later_same, process_at, same_scene}
-use Rattle.step_world.proofs.Places.{get_map, map_set}
+use Rattle.step_world.proofs.Places.{get_map}
 use Rattle.step_world.proofs.Serving.{sender_lies, served_on}
 use Rattle.step_world.proofs.worlds.World.serve.Goals as goal
+use Rattle.sql_base.proofs.ListFacts.{map_set}
 
 -- the place of the sender is one of the seats
 sender_seat : (setting : Setting) (tellings : List Telling) (w : Scene) (opener : ℕ) → Driving setting tellings w → Lies 1 (length setting.script.sessions) opener → opener - 1 < length w.seats

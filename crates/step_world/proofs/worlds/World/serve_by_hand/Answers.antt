@@ -22,9 +22,8 @@ use Rattle.step_world.proofs.Measured.{hand-advances, handed-less}
 use Rattle.step_world.proofs.Handed.{later_one, process_at, same_scene, within_map}
 use Rattle.step_world.proofs.Handing.{can_reply, handed_comes, handed_fits, handed_on}
 use Rattle.step_world.proofs.Opened.{OpenSeat, opened_at, out_is, seat_is, turn_hand}
-use Rattle.step_world.proofs.Places.{map_set}
 use Rattle.step_world.proofs.worlds.World.serve_by_hand.Goals as goal
-use Rattle.sql_base.proofs.ListFacts.{all_at}
+use Rattle.sql_base.proofs.ListFacts.{all_at, map_set}
 
 goes_by_hand : {T E : Type 0} (result : Result T E) (w : Scene) (at : ℕ) (s new : Seat Asking) (out : Outgoing) (d after : DiskProcess) (reply : PartitionReply) (acts : List Act) (o : OpenSeat w at s) → turn_of s ≡ turn.ServeByHand → IsOut s out
     → s.number ≡ suc at → slice_get w.processes o.r.part ≡ Some d → Handles d.partition (suc at) o.r.sync o.r.request after.partition → (opener_in after.partition (suc at)).kept ≡ Some reply → after.mail ≡ d.mail

@@ -20,11 +20,10 @@ use Rattle.step_world.proofs.Acting.{next_scene}
 use Rattle.step_world.proofs.Measured.{reply-advances, taken-less}
 use Rattle.step_world.proofs.Handed.{later_one, process_at, same_scene, within_map}
 use Rattle.step_world.proofs.Opened.{OpenSeat, opened_at, seat_is, turn_take}
-use Rattle.step_world.proofs.Places.{map_set}
 use Rattle.step_world.proofs.Replies.{comes_it, last_is, may_answer, spelled_it}
 use Rattle.step_world.proofs.Taking.{took_on}
 use Rattle.step_world.proofs.worlds.World.take.Goals as goal
-use Rattle.sql_base.proofs.ListFacts.{all_at}
+use Rattle.sql_base.proofs.ListFacts.{all_at, map_set}
 
 goes_taken : {T E : Type 0} (result : Result T E) (w : Scene) (at : ℕ) (s new : Seat Asking) (d : DiskProcess) (reply : PartitionReply) (acts : List Act) (o : OpenSeat w at s) → turn_of s ≡ turn.Take → s.number ≡ suc at
     → slice_get w.processes o.r.part ≡ Some d → (opener_in d.partition (suc at)).kept ≡ Some reply → acts ≡ w.acts ++ Take s.number ∷ [] → OnOk result (IsAnswered (Reply reply) s new)
