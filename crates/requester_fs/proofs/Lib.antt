@@ -1,6 +1,7 @@
 pub mod Asked
 pub mod Keeping
 pub mod Lasting
+pub mod LinesOfLogs
 pub mod Lists
 pub mod Logs
 pub mod Ordinals

@@ -11,7 +11,6 @@ pub mod Sent
 pub mod Drawing
 pub mod Marks
 pub mod Chosen
-pub mod Seating
 pub mod Handled
 pub mod Serving
 pub mod Handing
