@@ -1,0 +1,14 @@
+pub mod Answered
+pub mod AtParts
+pub mod Beginnings
+pub mod Going
+pub mod Places
+pub mod Refusals
+pub mod Sends
+pub mod Serving
+pub mod Stepping
+pub mod Taking
+pub mod Told
+pub mod Awaiting
+pub mod Sending
+pub mod Working

@@ -1,0 +1,4 @@
+pub mod Jobs
+pub mod Tokens
+pub mod Sessions
+pub mod Doing
