@@ -13,7 +13,9 @@ use Rattle.sql_base.specs.declared.scripts.Script.{Script}
 use Rattle.sql_base.specs.declared.values.Value.{Value}
 use Rattle.key_sequenced.specs.Cells.{records}
 use Rattle.key_sequenced.specs.declared.Cell.{Cell}
-use Rattle.partition_core.specs.Kept.{IsReplayed, rows_in}
+use Rattle.partition_core.specs.Kept.{IsReplayed, Kept, rows_in}
+use Rattle.partition_openings.proofs.LeftRows.{rows_by_part}
+use Rattle.std.proofs.lemmas.Simd.{map-map}
 use Rattle.partition_state.specs.State.{State}
 use Rattle.requester_fs.specs.Asking.{Asking, next_at}
 use Rattle.session_grammar.specs.Follows.{follows}
@@ -36,7 +38,7 @@ use Rattle.step_world.specs.Scaffold.Worlds.{Driving, Scene, Setting, Stands, aw
 use Rattle.step_world.specs.declared.processes.DiskProcess.{DiskProcess}
 use Rattle.step_world.specs.declared.seats.Seat.{Seat}
 use Rattle.step_world.proofs.Opened.{OpenSeat, log_at, opened_at, way_at}
-use Rattle.step_world.proofs.Places.{any_one, fold_one}
+use Rattle.step_world.proofs.Places.{any_one, fold_one, get_back}
 use Rattle.sql_base.proofs.ListFacts.{all_places, some-at, place-within}
 use Rattle.sql_base.proofs.Truths.{or-true}
 
@@ -186,28 +188,14 @@ module _ (kept : RunRecord) (rows : List (List (List Value))) where
   scheduled_still : (choices : List ℕ) → Scheduled choices kept → Scheduled choices having
   scheduled_still choices h = record { mails = h.mails; chosen = h.chosen; over = h.over; of_logs = h.of_logs; draws = h.draws; new_serves = h.new_serves }
 
--- the rows of the cells are those of their records
-rows_of_cells : (cells : List Cell) → filter_map (λ (cell : Cell). cell.now) cells ≡ map (λ k. k.row) (records cells)
-rows_of_cells [] = refl
-rows_of_cells (cell ∷ cells) = by_now cell.now (rows_of_cells cells)
-  where
-    by_now : (now : Option (List Value)) → filter_map (λ (c : Cell). c.now) cells ≡ map (λ k. k.row) (records cells)
-        → cons_option now (filter_map (λ (c : Cell). c.now) cells) ≡ map (λ k. k.row) (cons_option (option_map (λ row. record { key = cell.key; row = row }) now) (records cells))
-    by_now None h = h
-    by_now (Some row) h = ap (λ (rows : List (List Value)). row ∷ rows) h
-
-rows_by_part : (ps : List State) (ds : List DiskProcess) → ((part : ℕ) (d : DiskProcess) → slice_get ds part ≡ Some d → (slice_get ps part ≡ Some d.partition.opening) × IsReplayed d.partition)
+-- the rows of the partitions of processes
+rows_of_processes : (ps : List State) (ds : List DiskProcess) → ((part : ℕ) (d : DiskProcess) → slice_get ds part ≡ Some d → (slice_get ps part ≡ Some d.partition.opening) × IsReplayed d.partition)
     → map (λ (d : DiskProcess). rows_in d.partition) ds ≡ by_part rows_left ps (map (λ (d : DiskProcess). d.partition.history) ds)
-rows_by_part [] [] each = refl
-rows_by_part (p ∷ ps) [] each = refl
-rows_by_part [] (d ∷ ds) each = let first = (each 0 d refl).0 in absurd (cc)
-rows_by_part (p ∷ ps) (d ∷ ds) each =
-    let first = each 0 d refl in
-    let opened : p ≡ d.partition.opening = (let is = first.0 in cc) in
-    let now : rows_in d.partition ≡ rows_left d.partition.opening d.partition.history = rows_of_cells d.partition.now.cells ∙ ap (λ (q : State). map (λ k. k.row) (records q.cells)) first.1.replayed in
-    let here : rows_in d.partition ≡ rows_left p d.partition.history = now ∙ ap (λ (q : State). rows_left q d.partition.history) (sym opened) in
-    let rest = rows_by_part ps ds (λ part e found. each (suc part) e found) in
-    (λ i. here i ∷ rest i)
+rows_of_processes ps ds each =
+    let its : DiskProcess → Kept = λ d. d.partition in
+    sym (map-map rows_in its ds)
+    ∙ rows_by_part ps (map its ds) (λ part k found. let back = get_back its ds part k found in subst (λ (x : Kept). (slice_get ps part ≡ Some x.opening) × IsReplayed x) back.2 (each part back.0 back.1))
+    ∙ ap (by_part rows_left ps) (map-map (λ (k : Kept). k.history) its ds)
 
 module _ (setting : Setting) (tellings : List Telling) (w : Scene) (run : Driving setting tellings w)
     (over : actors (live_in w.seats) (length (record_of w).logs) (length (record_of w).histories) w.acts [] ≡ []) where
@@ -288,7 +276,7 @@ module _ (setting : Setting) (tellings : List Telling) (w : Scene) (run : Drivin
   is_legal =
       let rows : List (List (List Value)) = map (λ (d : DiskProcess). rows_in d.partition) w.processes in
       let left : RowsLeft setting.script (with_rows w) =
-      rows_by_part (openings setting.script) w.processes (λ part d found. ((run.processes part d found).opened, (run.processes part d found).replayed)) in
+      rows_of_processes (openings setting.script) w.processes (λ part d found. ((run.processes part d found).opened, (run.processes part d found).replayed)) in
       finished-legal setting.script (with_rows w) (ways_of w) (rows_free (record_of w) rows setting.script (ways_of w) run.so_far) ways_empty logs_whole left
 
   nobody_lives : (n : ℕ) → live_in w.seats n ≡ false
