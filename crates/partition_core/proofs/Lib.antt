@@ -12,3 +12,4 @@ pub mod Serving
 pub mod SingleKeys
 pub mod Starving
 pub mod Told
+pub mod Crossing

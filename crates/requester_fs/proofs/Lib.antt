@@ -7,3 +7,4 @@ pub mod Logs
 pub mod Ordinals
 pub mod Spelled
 pub mod Walks
+pub mod Crossing
