@@ -12,3 +12,16 @@ pub mod Told
 pub mod Awaiting
 pub mod Sending
 pub mod Working
+pub mod Assembled
+pub mod Begun
+pub mod Closing
+pub mod Closings
+pub mod Jobbing
+pub mod Joined
+pub mod Pooling
+pub mod Readied
+pub mod Ran
+pub mod Recorded
+pub mod Rising
+pub mod Sharing
+pub mod Crossing
